@@ -1,0 +1,4 @@
+pub mod Fill
+pub mod Part
+pub mod Every
+pub mod Test

@@ -1,0 +1,58 @@
+-- Parts of lists.
+--     part s p n        the n elements of s from the place p on
+--     drop-step         what stands from i on is the element at i, then what stands from i + 1 on (as code counts)
+--     part-step         the same inside a part
+-- Assumes nothing.
+use mathlib.Core.Path.{_≡_, refl}
+use mathlib.Core.List.{List, [], _∷_, _++_}
+use Prim.Native.Nat.{ℕ, zero, suc, _+_, _-_, _≤_, _<_}
+use native.Mathlib.Nat.{zero-add, suc-add}
+use native.Mathlib.Numerals.{add-one}
+use native.Mathlib.Omega.{arith}
+use lib.ListN.{length, take, drop, getD, length-take, length-drop}
+use lib.Seq.{drop-cons, drop-drop, take-add, take-take, take-nil, getD-take, getD-drop}
+
+pub drop-step : (s : List ℕ) (i : ℕ) → i < length s → drop i s ≡ getD s i 0 ∷ drop (i + 1) s
+drop-step s i h = rw (add-one i) (drop-cons s i 0 h)
+
+unfoldable pub part : List ℕ → ℕ → ℕ → List ℕ
+part s p n = take n (drop p s)
+
+pub part-length : (s : List ℕ) (p n : ℕ) → p + n ≤ length s → length (part s p n) ≡ n
+unfolding part
+part-length s p n h = simp (length-take, length-drop) (omega arith)
+
+pub part-at : (s : List ℕ) (p n i : ℕ) → i < n → getD (part s p n) i 0 ≡ getD s (p + i) 0
+unfolding part
+part-at s p n i h = rw (getD-take n (drop p s) i 0 h) (getD-drop p s i 0)
+
+pub part-step : (s : List ℕ) (p n k : ℕ) → p + n ≤ length s → k < n → drop k (part s p n) ≡ getD s (p + k) 0 ∷ drop (k + 1) (part s p n)
+part-step s p n k h l =
+    rw (drop-step (part s p n) k (omega (arith, part-length s p n h)), part-at s p n k l) refl
+
+pub part-none : (s : List ℕ) (p : ℕ) → part s p 0 ≡ []
+unfolding part
+part-none s p = refl
+
+-- a part and the one behind it are one part
+pub part-append : (s : List ℕ) (p m n : ℕ) → part s p (m + n) ≡ part s p m ++ part s (p + m) n
+unfolding part
+part-append s p m n = rw (take-add m n (drop p s), drop-drop m p s) refl
+
+-- one element, then the rest of the part
+pub part-cons : (s : List ℕ) (p n : ℕ) → p < length s → part s p (n + 1) ≡ getD s p 0 ∷ part s (p + 1) n
+unfolding part
+part-cons s p n h = rw (add-one n, drop-step s p h) refl
+
+-- what stands from a on in the first a + k elements is the first k of what stands from a on
+drop-take : (a k : ℕ) (l : List ℕ) → drop a (take (a + k) l) ≡ take k (drop a l)
+drop-take zero k l = rw (zero-add k) refl
+drop-take (suc a) k [] = rw (take-nil {A = ℕ} (suc a + k), take-nil {A = ℕ} k) refl
+drop-take (suc a) k (x ∷ l) = rw (suc-add a k) (drop-take a k l)
+
+-- a part of a part
+pub part-part : (s : List ℕ) (p n a m : ℕ) → a + m ≤ n → part (part s p n) a m ≡ part s (p + a) m
+unfolding part
+part-part s p n a m h =
+    let e : n ≡ a + (n - a) = omega arith in
+    rw (e, drop-take a (n - a) (drop p s), drop-drop a p s) (take-take m (n - a) (drop (p + a) s) (omega arith))
