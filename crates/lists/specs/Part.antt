@@ -3,17 +3,22 @@
 --     drop-step         what stands from i on is the element at i, then what stands from i + 1 on (as code counts)
 --     part-step         the same inside a part
 -- Assumes nothing.
-use mathlib.Core.Path.{_≡_, refl}
+use mathlib.Core.Path.{_≡_, refl, ap}
 use mathlib.Core.List.{List, [], _∷_, _++_}
 use Prim.Native.Nat.{ℕ, zero, suc, _+_, _-_, _≤_, _<_}
 use native.Mathlib.Nat.{zero-add, suc-add}
 use native.Mathlib.Numerals.{add-one}
 use native.Mathlib.Omega.{arith}
-use lib.ListN.{length, take, drop, getD, length-take, length-drop}
+use lib.ListN.{length, take, drop, getD, set, length-take, length-drop}
 use lib.Seq.{drop-cons, drop-drop, take-add, take-take, take-nil, getD-take, getD-drop}
 
 pub drop-step : (s : List ℕ) (i : ℕ) → i < length s → drop i s ≡ getD s i 0 ∷ drop (i + 1) s
 drop-step s i h = rw (add-one i) (drop-cons s i 0 h)
+
+-- a store in the second of two lists
+pub set-append-add : (xs ys : List ℕ) (n v : ℕ) → set (xs ++ ys) (length xs + n) v ≡ xs ++ set ys n v
+set-append-add [] ys n v = rw (zero-add n) refl
+set-append-add (x ∷ xs) ys n v = rw (suc-add (length xs) n) (ap (λ (l : List ℕ). x ∷ l) (set-append-add xs ys n v))
 
 unfoldable pub part : List ℕ → ℕ → ℕ → List ℕ
 part s p n = take n (drop p s)
