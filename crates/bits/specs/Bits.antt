@@ -8,16 +8,16 @@ use mathlib.Core.Path.{_≡_, refl, sym, ap, _∙_}
 use mathlib.Core.List.{List, [], _∷_, _++_, append-assoc}
 use mathlib.Core.Bool.{Bool, true, false}
 use Prim.Native.Nat.{ℕ, zero, suc, _+_, _-_, _*_, _/_, _%_, _^_, _≤_, _<_, min}
-use native.Mathlib.Nat.{mod-lt, mod-one, mod-eq-of-lt, pow-suc, mul-le-mul-right, zero-add, le-of-suc-le-suc}
+use native.Mathlib.Nat.{mod-lt, mod-one, mod-eq-of-lt, pow-suc, mul-le-mul-right, zero-add, suc-add, div-eq-of-lt, le-of-suc-le-suc}
 use native.Mathlib.Numerals.{add-one, one-add}
 use native.Mathlib.Omega.{arith}
 use lib.Dec.{leb}
-use borrow.Author.Tests.{le-leb, lt-leb}
-use lib.ListN.{length, take, drop, getD, set, length-append, List·getD-append}
-use lib.Seq.{getD-append-add, set-append-left}
-use lib.Pow.{mod-pow-add, mod-mod-pow, field, high, low}
-use Rattle.lists.specs.Every.{Below, below-nil, below-cons, below-head, below-tail, below-append}
-use Rattle.lists.specs.Part.{set-append-add}
+use borrow.Author.Tests.{le-leb, lt-leb, leb-true, leb-false}
+use lib.ListN.{length, take, drop, getD, set, replicate, length-append, length-take, length-drop, drop-of-length-le, List·getD-append}
+use lib.Seq.{getD-append-add, getD-take, getD-drop, set-append-left, drop-drop}
+use lib.Pow.{pow-mono, mod-pow-add, mod-mod-pow, field, high, low}
+use Rattle.lists.specs.Every.{Below, below-nil, below-cons, below-head, below-tail, below-append, below-take, below-drop}
+use Rattle.lists.specs.Part.{set-append-add, drop-step, part, part-drop, part-take}
 use Rattle.lists.specs.Test.{either}
 
 unfoldable pub lowBits : ℕ → ℕ → List ℕ
@@ -45,6 +45,10 @@ bitCount s = min (8 * length s) (2 ^ 64 - 1)
 unfoldable pub roomFor : ℕ → ℕ → ℕ → Bool
 roomFor len place n = leb (place + n) (min (8 * len) (2 ^ 64 - 1))
 
+-- the bits from a place on
+unfoldable pub bitsFrom : List ℕ → ℕ → List ℕ
+bitsFrom s place = drop place (take (bitCount s) (bitsOf s))
+
 -- ---- room
 
 pub room-yes : (len place n : ℕ) → place + n ≤ 8 * len → place + n < 2 ^ 64 → roomFor len place n ≡ true
@@ -63,6 +67,20 @@ room-past len place n h = lt-leb (place + n) (min (8 * len) (2 ^ 64 - 1)) (omega
 pub room-count : (s : List ℕ) (place n : ℕ) → roomFor (length s) place n ≡ leb (place + n) (bitCount s)
 unfolding roomFor bitCount
 room-count s place n = refl
+
+pub room-true : (s : List ℕ) (place n : ℕ) → roomFor (length s) place n ≡ true → place + n ≤ bitCount s
+room-true s place n h = leb-true (place + n) (bitCount s) (sym (room-count s place n) ∙ h)
+
+pub room-false : (s : List ℕ) (place n : ℕ) → roomFor (length s) place n ≡ false → bitCount s < place + n
+room-false s place n h = leb-false (place + n) (bitCount s) (sym (room-count s place n) ∙ h)
+
+pub count-length : (s : List ℕ) → bitCount s ≤ 8 * length s
+unfolding bitCount
+count-length s = omega arith
+
+pub count-lt : (s : List ℕ) → bitCount s < 2 ^ 64
+unfolding bitCount
+count-lt s = omega arith
 
 -- ---- a number in n bits
 
@@ -94,6 +112,14 @@ low-step n v i h =
 pub low-end : (n v i : ℕ) → n ≤ i → lowBits (n - i) v ≡ []
 unfolding lowBits
 low-end n v i h = let e : n - i ≡ 0 = omega arith in rw e refl
+
+-- more bits than the number has begin with zeros
+pub low-zeros : (k n v : ℕ) → v < 2 ^ n → lowBits (k + n) v ≡ replicate k 0 ++ lowBits n v
+unfolding lowBits
+low-zeros zero n v h = rw (zero-add n) refl
+low-zeros (suc k) n v h =
+    let z : v / 2 ^ (k + n) ≡ 0 = div-eq-of-lt (omega (arith, pow-mono {i = n} {j = k + n} (omega arith))) in
+    rw (suc-add k n, z, low-zeros k n v h) refl
 
 -- ---- the number that bits spell
 
@@ -139,6 +165,10 @@ low-mod zero k v = refl
 low-mod (suc n) k v =
     let e : k + suc n ≡ (k + 1) + n = omega arith in
     rw (e, low-mod n (k + 1) v) (ap (λ (b : ℕ). b ∷ lowBits n v) (rw (field v (k + 1) n) (mod-mod-pow (v / 2 ^ n) k 1)))
+
+-- n bits of a number do not see what stands above them
+pub low-over : (n a v : ℕ) → v < 2 ^ n → lowBits n (a * 2 ^ n + v) ≡ lowBits n v
+low-over n a v h = sym (low-mod n 0 (a * 2 ^ n + v)) ∙ rw (zero-add n, low a n h) refl
 
 -- bits are the digits of the number that they spell
 pub low-value : (bs : List ℕ) → Below 2 bs → lowBits (length bs) (value bs) ≡ bs
@@ -207,3 +237,36 @@ set-bit (c ∷ s) p v b h e = either (p + 1) 8 first (later (set-bit s (p - 8) v
         let q : p / 8 ≡ suc ((p - 8) / 8) = omega arith in
         let m : p % 8 ≡ (p - 8) % 8 = omega arith in
         rw (q) (ap (λ (l : List ℕ). lowBits 8 c ++ l) (rest (omega arith) (rw (q, m) at e)) ∙ sym (ap (λ (i : ℕ). set (lowBits 8 c ++ bitsOf s) i v) k ∙ set-append-add (lowBits 8 c) (bitsOf s) (p - 8) v))
+
+-- ---- the bits from a place on
+
+pub from-length : (s : List ℕ) (place : ℕ) → length (bitsFrom s place) ≡ bitCount s - place
+unfolding bitsFrom bitCount
+from-length s place = simp (length-drop, length-take) (omega (arith, bits-length s))
+
+pub from-below : (s : List ℕ) (place : ℕ) → Below 2 (bitsFrom s place)
+unfolding bitsFrom
+from-below s place = below-drop place (take (bitCount s) (bitsOf s)) (below-take (bitCount s) (bitsOf s) (bits-below s))
+
+pub from-at : (s : List ℕ) (place i : ℕ) → place + i < bitCount s → getD (bitsFrom s place) i 0 ≡ getD (bitsOf s) (place + i) 0
+unfolding bitsFrom
+from-at s place i h = rw (getD-drop place (take (bitCount s) (bitsOf s)) i 0) (getD-take (bitCount s) (bitsOf s) (place + i) 0 h)
+
+pub from-part : (s : List ℕ) (place i n : ℕ) → place + i + n ≤ bitCount s → part (bitsFrom s place) i n ≡ part (bitsOf s) (place + i) n
+unfolding bitsFrom
+from-part s place i n h = rw (part-drop (take (bitCount s) (bitsOf s)) place i n) (part-take (bitsOf s) (bitCount s) (place + i) n h)
+
+-- the bits from a later place on
+pub from-drop : (s : List ℕ) (place i : ℕ) → drop i (bitsFrom s place) ≡ bitsFrom s (place + i)
+unfolding bitsFrom
+from-drop s place i = drop-drop i place (take (bitCount s) (bitsOf s))
+
+-- the bit at a place, then those behind it
+pub from-step : (s : List ℕ) (place : ℕ) → place < bitCount s → bitsFrom s place ≡ getD (bitsOf s) place 0 ∷ bitsFrom s (place + 1)
+unfolding bitsFrom bitCount
+from-step s place h =
+    rw (drop-step (take (bitCount s) (bitsOf s)) place (simp length-take (omega (arith, bits-length s))), getD-take (bitCount s) (bitsOf s) place 0 h) refl
+
+pub from-end : (s : List ℕ) (place : ℕ) → bitCount s ≤ place → bitsFrom s place ≡ []
+unfolding bitsFrom bitCount
+from-end s place h = drop-of-length-le (take (bitCount s) (bitsOf s)) {i = place} (simp length-take (omega (arith, bits-length s)))

@@ -5,11 +5,11 @@
 -- Assumes nothing.
 use mathlib.Core.Path.{_≡_, refl, sym, ap, _∙_}
 use mathlib.Core.List.{List, [], _∷_, _++_, append-nil, append-assoc}
-use Prim.Native.Nat.{ℕ, zero, suc, _+_, _-_, _*_, _/_, _%_, _<_}
+use Prim.Native.Nat.{ℕ, _+_, _-_, _*_, _/_, _%_, _<_}
 use native.Mathlib.Nat.{mod-eq-of-lt}
 use native.Mathlib.Omega.{arith}
 use lib.ListN.{length, replicate, length-append, length-replicate}
-use Rattle.lists.specs.Every.{Below, below-nil, below-cons, below-head, below-tail, below-append, below-take, below-drop}
+use Rattle.lists.specs.Every.{Below, below-head, below-tail, below-append, below-zeros, below-take, below-drop}
 use Rattle.bits.specs.Bits.{lowBits, bitsOf, value, low-value, value-low, bits-length}
 
 unfoldable pub packed : List ℕ → List ℕ
@@ -46,13 +46,9 @@ packed-bits s h = rw (← append-nil (bitsOf s), packed-behind s [] h) (append-n
 pub bits-same : (s t : List ℕ) → Below 256 s → Below 256 t → bitsOf s ≡ bitsOf t → s ≡ t
 bits-same s t h k e = sym (packed-bits s h) ∙ ap packed e ∙ packed-bits t k
 
-zeros-below : (k : ℕ) → Below 2 (replicate k 0)
-zeros-below zero = below-nil (omega arith)
-zeros-below (suc k) = below-cons (omega arith) (zeros-below k)
-
 -- fewer than eight bits, and their padding
 short : (bs : List ℕ) (k : ℕ) → length (bs ++ replicate k 0) ≡ 8 → Below 2 bs → lowBits 8 (value (bs ++ replicate k 0)) ++ [] ≡ bs ++ replicate k 0
-short bs k l h = rw (append-nil (lowBits 8 (value (bs ++ replicate k 0)))) (rw l at (low-value (bs ++ replicate k 0) (below-append bs (replicate k 0) h (zeros-below k))))
+short bs k l h = rw (append-nil (lowBits 8 (value (bs ++ replicate k 0)))) (rw l at (low-value (bs ++ replicate k 0) (below-append bs (replicate k 0) h (below-zeros k (omega arith)))))
 
 pub bits-packed : (bs : List ℕ) → Below 2 bs → bitsOf (packed bs) ≡ bs ++ padding (length bs)
 unfolding packed bitsOf padding

@@ -4,9 +4,10 @@
 use mathlib.Core.List.{List, [], _∷_, _++_}
 use Prim.Native.Nat.{ℕ, zero, suc, _+_, _<_}
 use native.Mathlib.Omega.{arith}
-use lib.ListN.{length, take, drop, getD}
+use lib.ListN.{length, take, drop, getD, replicate}
 use lib.Seq.{getD-drop}
 use Rattle.lists.specs.Fill.{splice}
+use Rattle.lists.specs.Part.{part}
 
 pub record Below (m : ℕ) (xs : List ℕ) : Type 0 where
   pub at : (i : ℕ) → getD xs i 0 < m
@@ -42,6 +43,15 @@ below-take zero xs b = below-nil (lower b)
 below-take (suc n) [] b = b
 below-take (suc n) (x ∷ xs) b = below-cons (below-head b) (below-take n xs (below-tail b))
 
+-- zeros
+pub below-zeros : {m : ℕ} (k : ℕ) → 0 < m → Below m (replicate k 0)
+below-zeros zero h = below-nil h
+below-zeros (suc k) h = below-cons h (below-zeros k h)
+
 pub below-splice : {m : ℕ} (d : List ℕ) (at : ℕ) (v : List ℕ) → Below m d → Below m v → Below m (splice d at v)
 unfolding splice
 below-splice d at v b c = below-append (take at d) (v ++ drop (at + length v) d) (below-take at d b) (below-append v (drop (at + length v) d) c (below-drop (at + length v) d b))
+
+pub below-part : {m : ℕ} (s : List ℕ) (p n : ℕ) → Below m s → Below m (part s p n)
+unfolding part
+below-part s p n b = below-take n (drop p s) (below-drop p s b)

@@ -3,14 +3,14 @@
 --     drop-step         what stands from i on is the element at i, then what stands from i + 1 on (as code counts)
 --     part-step         the same inside a part
 -- Assumes nothing.
-use mathlib.Core.Path.{_≡_, refl, ap}
+use mathlib.Core.Path.{_≡_, refl, sym, ap}
 use mathlib.Core.List.{List, [], _∷_, _++_}
 use Prim.Native.Nat.{ℕ, zero, suc, _+_, _-_, _≤_, _<_}
 use native.Mathlib.Nat.{zero-add, suc-add}
 use native.Mathlib.Numerals.{add-one}
 use native.Mathlib.Omega.{arith}
-use lib.ListN.{length, take, drop, getD, set, length-take, length-drop}
-use lib.Seq.{drop-cons, drop-drop, take-add, take-take, take-nil, getD-take, getD-drop}
+use lib.ListN.{length, take, drop, getD, set, length-take, length-drop, take-append-drop}
+use lib.Seq.{drop-cons, drop-drop, take-add, take-take, take-nil, take-at, drop-at, getD-take, getD-drop}
 
 pub drop-step : (s : List ℕ) (i : ℕ) → i < length s → drop i s ≡ getD s i 0 ∷ drop (i + 1) s
 drop-step s i h = rw (add-one i) (drop-cons s i 0 h)
@@ -61,3 +61,22 @@ unfolding part
 part-part s p n a m h =
     let e : n ≡ a + (n - a) = omega arith in
     rw (e, drop-take a (n - a) (drop p s), drop-drop a p s) (take-take m (n - a) (drop (p + a) s) (omega arith))
+
+-- a part of what stands from a place on, and of what stands before one
+pub part-drop : (s : List ℕ) (p i n : ℕ) → part (drop p s) i n ≡ part s (p + i) n
+unfolding part
+part-drop s p i n = rw (drop-drop i p s) refl
+
+pub part-take : (s : List ℕ) (k p n : ℕ) → p + n ≤ k → part (take k s) p n ≡ part s p n
+unfolding part
+part-take s k p n h = rw (zero-add p) at (part-part s 0 k p n h)
+
+-- the part that stands between two lists
+pub part-between : (a v b : List ℕ) (p n : ℕ) → length a ≡ p → length v ≡ n → part (a ++ (v ++ b)) p n ≡ v
+unfolding part
+part-between a v b p n h k = rw (drop-at a (v ++ b) p h) (take-at v b n k)
+
+-- what stands from p on is n elements, then what stands behind them
+pub part-rest : (s : List ℕ) (p n : ℕ) → drop p s ≡ part s p n ++ drop (p + n) s
+unfolding part
+part-rest s p n = rw (← drop-drop n p s) (sym (take-append-drop n (drop p s)))

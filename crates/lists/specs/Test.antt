@@ -4,7 +4,7 @@
 --     same             whether two lists are equal, for such a test
 --     either           one of two numbers is at most the other, or above it
 -- Assumes nothing.
-use mathlib.Core.Bool.{Bool, true, false, _&&_}
+use mathlib.Core.Bool.{Bool, true, false, _&&_, false≢true}
 use mathlib.Core.List.{List, [], _∷_}
 use mathlib.Core.Path.{_≡_, refl}
 use Prim.Native.Nat.{ℕ, zero, suc, _≤_, _<_}
@@ -25,6 +25,11 @@ left false b t = t
 pub right : (a b : Bool) → T (a && b) → T b
 right true b t = t
 right false b t = absurd t
+
+-- the same of a test that came out true
+pub both : (a b : Bool) → (a && b) ≡ true → (a ≡ true) × (b ≡ true)
+both true b e = (refl, e)
+both false b e = absurd (false≢true e)
 
 pub at-below : (n : ℕ) (f : ℕ → Bool) → T (allBelow n f) → (k : ℕ) → k < n → T (f k)
 unfolding allBelow

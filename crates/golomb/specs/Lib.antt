@@ -1,0 +1,4 @@
+pub mod Code
+pub mod Read
+pub mod Signed
+pub mod Answers
