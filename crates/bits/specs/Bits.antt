@@ -17,7 +17,7 @@ use lib.ListN.{length, take, drop, getD, set, replicate, length-append, length-t
 use lib.Seq.{getD-append-add, getD-take, getD-drop, set-append-left, drop-drop}
 use lib.Pow.{pow-mono, mod-pow-add, mod-mod-pow, field, high, low}
 use Rattle.lists.specs.Every.{Below, below-nil, below-cons, below-head, below-tail, below-append, below-take, below-drop}
-use Rattle.lists.specs.Part.{set-append-add, drop-step, part, part-drop, part-take}
+use Rattle.lists.specs.Part.{set-append-add, drop-step, part, part-drop, part-take, part-rest}
 use Rattle.lists.specs.Test.{either}
 
 unfoldable pub lowBits : ℕ → ℕ → List ℕ
@@ -270,3 +270,13 @@ from-step s place h =
 pub from-end : (s : List ℕ) (place : ℕ) → bitCount s ≤ place → bitsFrom s place ≡ []
 unfolding bitsFrom bitCount
 from-end s place h = drop-of-length-le (take (bitCount s) (bitsOf s)) {i = place} (simp length-take (omega (arith, bits-length s)))
+
+-- n bits, then those behind them
+pub from-split : (s : List ℕ) (place n : ℕ) → place + n ≤ bitCount s → bitsFrom s place ≡ part (bitsOf s) place n ++ bitsFrom s (place + n)
+unfolding bitsFrom
+from-split s place n h = rw (← part-take (bitsOf s) (bitCount s) place n h) (part-rest (take (bitCount s) (bitsOf s)) place n)
+
+-- buffers of one length have as many bits
+pub count-same : (s t : List ℕ) → length s ≡ length t → bitCount s ≡ bitCount t
+unfolding bitCount
+count-same s t e = rw e refl

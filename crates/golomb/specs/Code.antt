@@ -126,3 +126,7 @@ ue-shape x =
     let e : numBits (x + 1) ≡ suc m = omega arith in
     let t : lowBits (suc m) (x + 1) ≡ 1 ∷ lowBits m (x + 1) = rw (ue-top x) refl in
     ap (λ (l : List ℕ). replicate m 0 ++ l) (ap (λ (n : ℕ). lowBits n (x + 1)) e ∙ t)
+
+-- no code is empty
+pub ue-long : (x : ℕ) → 1 ≤ length (ue x)
+ue-long x = let d = num-bits (x + 1) in omega (arith, ue-length x)

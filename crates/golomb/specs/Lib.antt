@@ -2,3 +2,5 @@ pub mod Code
 pub mod Read
 pub mod Signed
 pub mod Answers
+pub mod Laws
+pub mod Cases

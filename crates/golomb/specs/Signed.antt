@@ -10,9 +10,10 @@ use Prim.Native.Nat.{ℕ, zero, suc, _+_, _-_, _*_, _/_, _%_, _^_, _≤_, _<_}
 use native.Mathlib.Omega.{arith}
 use lib.Dec.{leb, eqb}
 use lib.IntN.{ℤ, pos, negsuc, negℤ, natAbs}
-use borrow.Author.Tests.{le-leb, lt-leb, eq-eqb, ne-eqb}
+use borrow.Author.Tests.{le-leb, lt-leb, leb-true, eq-eqb, ne-eqb}
+use Rattle.lists.specs.Every.{Below}
 use Rattle.lists.specs.Test.{either}
-use Rattle.golomb.specs.Code.{ue}
+use Rattle.golomb.specs.Code.{ue, ue-below}
 
 unfoldable pub mapped : ℤ → ℕ
 mapped (pos zero) = 0
@@ -24,6 +25,10 @@ unmapped k = cond (eqb (k % 2) 1) (pos ((k + 1) / 2)) (negℤ (pos (k / 2)))
 
 unfoldable pub se : ℤ → List ℕ
 se x = ue (mapped x)
+
+pub se-below : (x : ℤ) → Below 2 (se x)
+unfolding se
+se-below x = ue-below (mapped x)
 
 pub unmap-map : (x : ℤ) → unmapped (mapped x) ≡ x
 unfolding unmapped mapped
@@ -62,3 +67,9 @@ map-domain (negsuc n) =
     either (suc n) (2 ^ 31 - 1)
     (λ h. le-leb (suc n) (2 ^ 31 - 1) h ∙ sym (le-leb (2 * suc n) (2 ^ 32 - 2) (omega arith)))
     (λ h. lt-leb (suc n) (2 ^ 31 - 1) h ∙ sym (lt-leb (2 * suc n) (2 ^ 32 - 2) (omega arith)))
+
+pub map-most : (x : ℤ) → natAbs x ≤ 2 ^ 31 - 1 → mapped x ≤ 2 ^ 32 - 2
+map-most x h = leb-true (mapped x) (2 ^ 32 - 2) (sym (map-domain x) ∙ le-leb (natAbs x) (2 ^ 31 - 1) h)
+
+pub unmap-most : (k : ℕ) → k ≤ 2 ^ 32 - 2 → natAbs (unmapped k) ≤ 2 ^ 31 - 1
+unmap-most k h = leb-true (natAbs (unmapped k)) (2 ^ 31 - 1) (map-domain (unmapped k) ∙ rw (map-unmap k) (le-leb k (2 ^ 32 - 2) h))

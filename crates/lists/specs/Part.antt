@@ -10,7 +10,8 @@ use native.Mathlib.Nat.{zero-add, suc-add}
 use native.Mathlib.Numerals.{add-one}
 use native.Mathlib.Omega.{arith}
 use lib.ListN.{length, take, drop, getD, set, length-take, length-drop, take-append-drop}
-use lib.Seq.{drop-cons, drop-drop, take-add, take-take, take-nil, take-at, drop-at, getD-take, getD-drop}
+use lib.Seq.{drop-cons, drop-drop, take-add, take-take, take-nil, take-at, drop-at, getD-take, getD-drop, length-take-le}
+use Rattle.lists.specs.Fill.{splice}
 
 pub drop-step : (s : List ℕ) (i : ℕ) → i < length s → drop i s ≡ getD s i 0 ∷ drop (i + 1) s
 drop-step s i h = rw (add-one i) (drop-cons s i 0 h)
@@ -80,3 +81,8 @@ part-between a v b p n h k = rw (drop-at a (v ++ b) p h) (take-at v b n k)
 pub part-rest : (s : List ℕ) (p n : ℕ) → drop p s ≡ part s p n ++ drop (p + n) s
 unfolding part
 part-rest s p n = rw (← drop-drop n p s) (sym (take-append-drop n (drop p s)))
+
+-- what was written stands where it was written
+pub splice-part : (d : List ℕ) (at : ℕ) (v : List ℕ) → at + length v ≤ length d → part (splice d at v) at (length v) ≡ v
+unfolding splice
+splice-part d at v h = part-between (take at d) v (drop (at + length v) d) at (length v) (length-take-le at d (omega arith)) refl

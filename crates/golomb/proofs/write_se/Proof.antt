@@ -8,9 +8,9 @@ use mir.Syntax.{w32}
 use mir.Val.{SFits, ofZ}
 use mir.Facts.{toZ-ofZ}
 use borrow.Author.Needs.{needs}
-use borrow.Author.Tests.{le-leb, lt-leb, leb-true}
+use borrow.Author.Tests.{le-leb, lt-leb}
 use Rattle.golomb.specs.Code.{ue}
-use Rattle.golomb.specs.Signed.{mapped, map-domain, se}
+use Rattle.golomb.specs.Signed.{mapped, map-most, se}
 use Rattle.golomb.specs.Answers.{hasSe, write-none}
 use Rattle.golomb.proofs.write_se.Statement.{statement}
 use Rattle.golomb.proofs.write_se.Tie as tie
@@ -28,9 +28,6 @@ small (negsuc n) f e = omega (arith, f .sfits, e)
 code : (x : ℤ) → natAbs x ≤ 2 ^ 31 - 1 → hasSe x ≡ true
 unfolding hasSe
 code x h = le-leb (natAbs x) (2 ^ 31 - 1) h
-
-maps : (x : ℤ) → natAbs x ≤ 2 ^ 31 - 1 → mapped x ≤ 2 ^ 32 - 2
-maps x h = leb-true (mapped x) (2 ^ 32 - 2) (sym (map-domain x) ∙ le-leb (natAbs x) (2 ^ 31 - 1) h)
 
 returns : tie.Need-returns
 returns c =
@@ -50,7 +47,7 @@ is-mapped : (c : tie.After-mapped) → c .mapped .result ≡ mapped (c .before .
 is-mapped c = c .mapped .ensures ∙ ap mapped (toZ-ofZ (c .before .before .before .before .fits .x))
 
 put-code-requires : tie.Need-put-code-requires
-put-code-requires c κs = rw (is-mapped c) (maps (c .before .before .before .before .args .x) (few (c .before .before)))
+put-code-requires c κs = rw (is-mapped c) (map-most (c .before .before .before .before .args .x) (few (c .before .before)))
 
 same-length : tie.Need-same-length
 same-length c = search needs
