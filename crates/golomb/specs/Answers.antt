@@ -75,15 +75,39 @@ abbrev pub ueRead : UeRead → ℕ
 ueRead (Ue.Number x p) = 0
 ueRead Ue.NoCode = 22
 
+-- the number, and the place behind its code; on refusal a number that the host holds and the place of the call, as they were
+abbrev pub ueNumber : UeRead → ℕ → ℕ
+ueNumber (Ue.Number x p) old = x
+ueNumber Ue.NoCode old = old
+
+abbrev pub uePlace : UeRead → ℕ → ℕ
+uePlace (Ue.Number x p) place = p
+uePlace Ue.NoCode place = place
+
 abbrev pub seRead : SeRead → ℕ
 seRead (Se.Number x p) = 0
 seRead Se.NoCode = 22
+
+abbrev pub seNumber : SeRead → ℤ → ℤ
+seNumber (Se.Number x p) old = x
+seNumber Se.NoCode old = old
+
+abbrev pub sePlace : SeRead → ℕ → ℕ
+sePlace (Se.Number x p) place = p
+sePlace Se.NoCode place = place
 
 abbrev pub bitsRead : BitsRead → ℕ
 bitsRead (U.Number x p) = 0
 bitsRead U.NoCode = 22
 
--- the number and the place behind its code
+abbrev pub bitsNumber : BitsRead → ℕ → ℕ
+bitsNumber (U.Number x p) old = x
+bitsNumber U.NoCode old = old
+
+abbrev pub bitsPlace : BitsRead → ℕ → ℕ
+bitsPlace (U.Number x p) place = p
+bitsPlace U.NoCode place = place
+
 unfoldable pub readUe : List ℕ → ℕ → UeRead
 readUe s place = cond (whole (bitsFrom s place)) (Ue.Number (codeNum (bitsFrom s place)) (place + codeBits (bitsFrom s place))) Ue.NoCode
 
