@@ -13,13 +13,11 @@ use mathlib.Core.Bool.{Bool, true, false, cond, _&&_, _||_, and-eq-true-iff, and
 use Prim.Native.Nat.{ℕ, zero, suc, _+_, _≤_, _<_}
 use native.Mathlib.Omega.{arith}
 use lib.Dec.{leb, eqb}
-use lib.ListN.{length, take, drop, getD, length-drop, drop-of-length-le, List·getD-eq-default}
+use lib.ListN.{length, take}
 use lib.Seq.{take-nil}
 use borrow.Author.Tests.{leb-true, leb-false, lt-leb, ne-eqb}
 use Rattle.nal_unit.specs.Escape.{inserts, emit, zeros, escFrom, esc, emit-more, emit-same, zeros-above}
-use Rattle.nal_unit.specs.Bytes.{lastOf, drop-three}
-use Rattle.lists.specs.Part.{drop-step}
-use Rattle.lists.specs.Test.{either}
+use Rattle.nal_unit.specs.Bytes.{lastOf}
 
 -- whether the byte x, with z zero bytes counted before it, is an inserted one
 unfoldable pub inserted : ℕ → ℕ → Bool
@@ -243,26 +241,3 @@ fault-take (suc m) (x ∷ t) e =
 -- nor has any start of an escape one
 pub fault-esc-take : (m : ℕ) (p : List ℕ) → fault (take m (esc p)) ≡ false
 fault-esc-take m p = fault-take m (esc p) (fault-esc p)
-
--- The same by the places of a slice, as a loop looks for it
-over3-at : (s : List ℕ) (i : ℕ) → over3 (drop i s) ≡ leb 4 (getD s i 0)
-unfolding over3
-over3-at s i = either (length s) i (λ h. rw (drop-of-length-le s h, List·getD-eq-default s 0 h) refl) (λ h. rw (drop-step s i h) refl)
-
-pub fault-at : (s : List ℕ) (i : ℕ) → i + 3 ≤ length s
-    → faultHere (drop i s) ≡ eqb (getD s i 0) 0 && (eqb (getD s (i + 1) 0) 0 && (leb (getD s (i + 2) 0) 2 || (eqb (getD s (i + 2) 0) 3 && leb 4 (getD s (i + 3) 0))))
-unfolding faultHere
-fault-at s i h = rw (drop-three s i h, over3-at s (i + 3)) refl
-
-pub fault-short : (s : List ℕ) (i : ℕ) → length s < i + 3 → faultHere (drop i s) ≡ false
-unfolding faultHere
-fault-short s i h = short (drop i s) (omega (arith, length-drop i s))
-  where
-    short : (l : List ℕ) → length l < 3 → faultHere l ≡ false
-    short [] h = refl
-    short (a ∷ []) h = refl
-    short (a ∷ b ∷ []) h = refl
-    short (a ∷ b ∷ c ∷ t) h = absurd (omega arith)
-
-pub fault-step : (s : List ℕ) (i : ℕ) → i < length s → fault (drop i s) ≡ faultHere (drop i s) || fault (drop (i + 1) s)
-fault-step s i h = rw (drop-step s i h) (fault-cons (getD s i 0) (drop (i + 1) s))

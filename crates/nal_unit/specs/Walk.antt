@@ -1,0 +1,317 @@
+-- Start codes and units in a list of bytes (B.1.1, B.2; paper 01, "Reading a take"). Everything here looks at the bytes from the walk's place on, `s`,
+-- and counts from there.
+--     code s        whether a start code, 00 00 01, stands at the front of s
+--     next s        how far it is to the next start code, or to the end where there is none
+--     blank s       whether s is all zero
+--     trim s        s less its trailing zeros
+--     meet s        what a walk meets: the end, bytes that belong to no unit, or a unit
+--     next-join     behind bytes that hold no start code and do not end in zero, the next start code is that of what follows: none is made at the seam
+--     apart         two start codes never overlap
+-- Assumes nothing.
+use mathlib.Core.Path.{_≡_, refl, sym, ap, _∙_}
+use mathlib.Core.List.{List, [], _∷_, _++_}
+use mathlib.Core.Bool.{Bool, true, false, cond, _&&_, and-eq-true-iff, and-false, true≢false}
+use mathlib.Core.Logic.{_⊎_, inl, inr}
+use Prim.Native.Nat.{ℕ, zero, suc, _+_, _≤_, _<_}
+use native.Mathlib.Nat.{zero-add}
+use native.Mathlib.Omega.{arith}
+use lib.Dec.{eqb}
+use lib.ListN.{length, take, drop, drop-of-length-le}
+use lib.Seq.{length-take-le, take-append-add}
+use borrow.Author.Tests.{eqb-true, eqb-false, ne-eqb}
+use Rattle.nal_unit.specs.Bytes.{lastOf, last-above}
+use Rattle.lists.specs.Test.{either}
+
+-- the bytes t behind a start code
+abbrev pub startCode : List ℕ → List ℕ
+startCode t = 0 ∷ 0 ∷ 1 ∷ t
+
+unfoldable pub code : List ℕ → Bool
+code [] = false
+code (a ∷ []) = false
+code (a ∷ b ∷ []) = false
+code (a ∷ b ∷ c ∷ t) = eqb a 0 && (eqb b 0 && eqb c 1)
+
+unfoldable pub next : List ℕ → ℕ
+next [] = 0
+next (x ∷ t) = cond (code (x ∷ t)) 0 (suc (next t))
+
+unfoldable pub blank : List ℕ → Bool
+blank [] = true
+blank (x ∷ t) = eqb x 0 && blank t
+
+-- the byte x before bytes that do not end in zero: left out where it is zero and none follow
+unfoldable pub lay : ℕ → List ℕ → List ℕ
+lay x [] = cond (eqb x 0) [] (x ∷ [])
+lay x (y ∷ t) = x ∷ y ∷ t
+
+unfoldable pub trim : List ℕ → List ℕ
+trim [] = []
+trim (x ∷ t) = lay x (trim t)
+
+-- what a walk meets, with offsets and moves counted from its place
+--     end             nothing but zeros is left
+--     stray n         bytes from the place to the next start code or the end, n of them, not all zero
+--     unit o u n      the unit u, which begins at o, behind its start code; the next start code, or the end, is at n
+pub data Met : Type 0 where
+  end : Met
+  stray : ℕ → Met
+  unit : ℕ → List ℕ → ℕ → Met
+
+-- behind g zero bytes: the end, or a start code and its unit, which runs to the next one or the end, less its trailing zeros
+unfoldable pub behind : ℕ → List ℕ → Met
+behind g [] = end
+behind g (x ∷ t) = unit (g + 3) (trim (take (next (drop 2 t)) (drop 2 t))) (g + suc (suc (suc (next (drop 2 t)))))
+
+unfoldable pub meet : List ℕ → Met
+meet s = cond (blank (take (next s) s)) (behind (next s) (drop (next s) s)) (stray (next s))
+
+pub code-start : (t : List ℕ) → code (startCode t) ≡ true
+unfolding code
+code-start t = refl
+
+pub code-is : (s : List ℕ) → code s ≡ true → s ≡ startCode (drop 3 s)
+unfolding code
+code-is [] e = absurd (true≢false (sym e))
+code-is (a ∷ []) e = absurd (true≢false (sym e))
+code-is (a ∷ b ∷ []) e = absurd (true≢false (sym e))
+code-is (a ∷ b ∷ c ∷ t) e =
+    let p = and-eq-true-iff (eqb a 0) (eqb b 0 && eqb c 1) .0 e in
+    let q = and-eq-true-iff (eqb b 0) (eqb c 1) .0 (p .1) in
+    rw (eqb-true a 0 (p .0), eqb-true b 0 (q .0), eqb-true c 1 (q .1)) refl
+
+pub next-nil : next [] ≡ 0
+unfolding next
+next-nil = refl
+
+-- at a start code
+pub next-code : (s : List ℕ) → code s ≡ true → next s ≡ 0
+unfolding next
+next-code [] e = refl
+next-code (x ∷ t) e = rw e refl
+
+-- one byte on where none stands
+pub next-past : (x : ℕ) (t : List ℕ) → code (x ∷ t) ≡ false → next (x ∷ t) ≡ suc (next t)
+unfolding next
+next-past x t e = rw e refl
+
+pub next-le : (s : List ℕ) → next s ≤ length s
+unfolding next
+next-le [] = omega arith
+next-le (x ∷ t) = by (code (x ∷ t)) (next-le t)
+  where
+    by : (b : Bool) → next t ≤ length t → cond b 0 (suc (next t)) ≤ suc (length t)
+    by true h = omega arith
+    by false h = omega arith
+
+-- there the list ends, or a start code stands
+pub next-there : (s : List ℕ) → next s < length s → code (drop (next s) s) ≡ true
+unfolding next
+next-there [] h = absurd (omega arith)
+next-there (x ∷ t) h = by (code (x ∷ t)) refl (next-there t)
+  where
+    by : (b : Bool) → code (x ∷ t) ≡ b → (next t < length t → code (drop (next t) t) ≡ true) → code (drop (next (x ∷ t)) (x ∷ t)) ≡ true
+    by true e ih = rw (next-code (x ∷ t) e) e
+    by false e ih = rw (next-past x t e) (ih (omega (arith, next-past x t e)))
+
+-- and none before
+pub next-before : (s : List ℕ) (i : ℕ) → i < next s → code (drop i s) ≡ false
+unfolding next
+next-before [] i h = absurd (omega arith)
+next-before (x ∷ t) i h = by (code (x ∷ t)) refl i h (next-before t)
+  where
+    by : (b : Bool) → code (x ∷ t) ≡ b → (i : ℕ) → i < next (x ∷ t) → ((i : ℕ) → i < next t → code (drop i t) ≡ false) → code (drop i (x ∷ t)) ≡ false
+    by true e i h ih = absurd (omega (arith, next-code (x ∷ t) e))
+    by false e zero h ih = e
+    by false e (suc i) h ih = ih i (omega (arith, next-past x t e))
+
+-- bytes that hold no start code: neither does what is behind the first
+pub clear-tail : (x : ℕ) (t : List ℕ) → next (x ∷ t) ≡ length (x ∷ t) → (code (x ∷ t) ≡ false) × (next t ≡ length t)
+clear-tail x t h = by (code (x ∷ t)) refl
+  where
+    by : (b : Bool) → code (x ∷ t) ≡ b → (code (x ∷ t) ≡ false) × (next t ≡ length t)
+    by true e = absurd (omega (arith, next-code (x ∷ t) e))
+    by false e = (e, omega (arith, next-past x t e))
+
+pub clear-cons : (x : ℕ) (t : List ℕ) → code (x ∷ t) ≡ false → next t ≡ length t → next (x ∷ t) ≡ length (x ∷ t)
+clear-cons x t e h = next-past x t e ∙ ap suc h
+
+-- no start code begins or goes on with a byte above 0
+code-first : (x : ℕ) (t : List ℕ) → 0 < x → code (x ∷ t) ≡ false
+unfolding code
+code-first x [] h = refl
+code-first x (b ∷ []) h = refl
+code-first x (b ∷ c ∷ t) h = rw (ne-eqb x 0 (λ e. omega arith)) refl
+
+code-second : (a x : ℕ) (t : List ℕ) → 0 < x → code (a ∷ x ∷ t) ≡ false
+unfolding code
+code-second a x [] h = refl
+code-second a x (c ∷ t) h = rw (ne-eqb x 0 (λ e. omega arith), and-false) refl
+
+pub next-join : (c t : List ℕ) → 0 < lastOf 1 c → next c ≡ length c → next (c ++ t) ≡ length c + next t
+unfolding lastOf code
+next-join [] t l h = sym (zero-add (next t))
+next-join (x ∷ []) t l h = next-past x t (code-first x t l) ∙ omega arith
+next-join (x ∷ y ∷ []) t l h = next-past x (y ∷ t) (code-second x y t l) ∙ ap suc (next-past y t (code-first y t l)) ∙ omega arith
+next-join (x ∷ y ∷ z ∷ c) t l h =
+    let k = clear-tail x (y ∷ z ∷ c) h in
+    next-past x (y ∷ z ∷ c ++ t) (k .0) ∙ ap suc (next-join (y ∷ z ∷ c) t l (k .1)) ∙ omega arith
+
+-- a cut makes no start code
+code-take : (m x : ℕ) (c : List ℕ) → code (x ∷ c) ≡ false → code (x ∷ take m c) ≡ false
+unfolding code
+code-take zero x c e = refl
+code-take (suc m) x [] e = refl
+code-take (suc zero) x (b ∷ c) e = refl
+code-take (suc (suc m)) x (b ∷ []) e = refl
+code-take (suc (suc m)) x (b ∷ d ∷ c) e = e
+
+pub clear-take : (m : ℕ) (c : List ℕ) → next c ≡ length c → next (take m c) ≡ length (take m c)
+clear-take zero c h = next-nil
+clear-take (suc m) [] h = next-nil
+clear-take (suc m) (x ∷ c) h =
+    let k = clear-tail x c h in
+    clear-cons x (take m c) (code-take m x c (k .0)) (clear-take m c (k .1))
+
+-- a start code that stands is reached at the latest
+pub next-most : (y t : List ℕ) → next (y ++ startCode t) ≤ length y
+next-most [] t = omega (arith, next-code (startCode t) (code-start t))
+next-most (x ∷ y) t = by (code (x ∷ (y ++ startCode t))) refl (next-most y t)
+  where
+    by : (b : Bool) → code (x ∷ (y ++ startCode t)) ≡ b → next (y ++ startCode t) ≤ length y → next (x ∷ (y ++ startCode t)) ≤ suc (length y)
+    by true e ih = omega (arith, next-code (x ∷ (y ++ startCode t)) e)
+    by false e ih = omega (arith, next-past x (y ++ startCode t) e)
+
+-- two start codes never overlap: one that stands in front of z and a start code behind it is that one, or stands wholly in z
+pub apart : (z t : List ℕ) → code (z ++ startCode t) ≡ true → (z ≡ []) ⊎ (z ≡ startCode (drop 3 z))
+unfolding code
+apart [] t e = inl refl
+apart (a ∷ []) t e = absurd (true≢false (sym (and-eq-true-iff (eqb a 0) false .0 e .1)))
+apart (a ∷ b ∷ []) t e = absurd (true≢false (sym (and-eq-true-iff (eqb b 0) false .0 (and-eq-true-iff (eqb a 0) (eqb b 0 && false) .0 e .1) .1)))
+apart (a ∷ b ∷ c ∷ z) t e = inr (code-is (a ∷ b ∷ c ∷ z) e)
+
+-- Trimming
+
+-- zeros leave nothing
+pub trim-blank : (z : List ℕ) → blank z ≡ true → trim z ≡ []
+unfolding trim lay blank
+trim-blank [] e = refl
+trim-blank (x ∷ z) e =
+    let p = and-eq-true-iff (eqb x 0) (blank z) .0 e in
+    rw (trim-blank z (p .1), p .0) refl
+
+-- bytes that do not end in zero, with zeros behind
+pub trim-join : (c z : List ℕ) → 0 < lastOf 0 c → blank z ≡ true → trim (c ++ z) ≡ c
+unfolding trim lay lastOf
+trim-join [] z l e = absurd (omega arith)
+trim-join (x ∷ []) z l e = rw (trim-blank z e, ne-eqb x 0 (λ q. omega arith)) refl
+trim-join (x ∷ y ∷ c) z l e = rw (trim-join (y ∷ c) z l e) refl
+
+-- what is left is the first bytes, and behind them stand zeros
+pub record Trimmed (s : List ℕ) : Type 0 where
+  pub count : ℕ
+  pub most : count ≤ length s
+  pub left : trim s ≡ take count s
+  pub gone : blank (drop count s) ≡ true
+  pub ends : 0 < lastOf 1 (trim s)
+
+pub trimmed : (s : List ℕ) → Trimmed s
+unfolding trim lay lastOf blank
+trimmed [] = record { count = 0; most = omega arith; left = refl; gone = refl; ends = omega arith }
+trimmed (x ∷ s) = by (trim s) refl (trimmed s)
+  where
+    one : (b : Bool) → eqb x 0 ≡ b → trim s ≡ [] → blank s ≡ true → Trimmed (x ∷ s)
+    one true z e g = record { count = 0; most = omega arith; left = rw (e, z) refl; gone = rw (z, g) refl; ends = rw (e, z) (omega arith) }
+    one false z e g =
+        record { count = 1; most = omega arith; left = rw (e, z) refl; gone = g; ends = rw (e, z) (omega (arith, eqb-false x 0 z)) }
+
+    by : (t : List ℕ) → trim s ≡ t → Trimmed s → Trimmed (x ∷ s)
+    by [] e r =
+        let z : r .count ≡ 0 = omega (arith, length-take-le (r .count) s (r .most), ap length (sym (r .left) ∙ e)) in
+        one (eqb x 0) refl e (rw z at (r .gone))
+    by (y ∷ t) e r =
+        record {
+          count = suc (r .count);
+          most = omega arith;
+          left = rw e (ap (λ (l : List ℕ). x ∷ l) (sym e ∙ r .left));
+          gone = r .gone;
+          ends = rw e (rw e at (r .ends));
+        }
+
+-- Meeting
+
+-- bytes in front of which a walk meets no stray bytes: zeros only, up to the next start code or the end
+abbrev pub Calm : List ℕ → Type 0
+Calm s = blank (take (next s) s) ≡ true
+
+blank-take : (n : ℕ) (s : List ℕ) → blank s ≡ true → blank (take n s) ≡ true
+unfolding blank
+blank-take zero s e = refl
+blank-take (suc n) [] e = refl
+blank-take (suc n) (x ∷ s) e =
+    let p = and-eq-true-iff (eqb x 0) (blank s) .0 e in
+    rw (p .0) (blank-take n s (p .1))
+
+pub calm-nil : Calm []
+unfolding next blank
+calm-nil = refl
+
+-- zeros only
+pub calm-blank : (s : List ℕ) → blank s ≡ true → Calm s
+calm-blank s e = blank-take (next s) s e
+
+-- a start code
+pub calm-code : (s : List ℕ) → code s ≡ true → Calm s
+unfolding blank
+calm-code s e = rw (next-code s e) refl
+
+-- a start code behind one more zero, as the writer puts it
+pub calm-start : (t : List ℕ) → Calm (0 ∷ startCode t)
+unfolding next code blank
+calm-start t = refl
+
+pub meet-nil : meet [] ≡ end
+unfolding meet behind next blank
+meet-nil = refl
+
+-- at a start code: its unit
+pub meet-start : (t : List ℕ) → meet (startCode t) ≡ unit 3 (trim (take (next t) t)) (suc (suc (suc (next t))))
+unfolding meet behind next code blank
+meet-start t = ap (λ (k : ℕ). unit 3 (trim (take (next t) t)) k) (zero-add (suc (suc (suc (next t)))))
+
+-- the three cases
+pub meet-stray : (s : List ℕ) → blank (take (next s) s) ≡ false → meet s ≡ stray (next s)
+unfolding meet
+meet-stray s e = rw e refl
+
+pub meet-end : (s : List ℕ) → Calm s → length s ≤ next s → meet s ≡ end
+unfolding meet behind
+meet-end s c h = rw (c, drop-of-length-le s h) refl
+
+pub meet-unit : (s t : List ℕ) → Calm s → drop (next s) s ≡ startCode t → meet s ≡ unit (next s + 3) (trim (take (next t) t)) (next s + suc (suc (suc (next t))))
+unfolding meet behind
+meet-unit s t c e = rw (c, e) refl
+
+-- what a walk meets in calm bytes is what it meets at their next start code or end
+pub data Seen (s : List ℕ) : Type 0 where
+  ends : meet s ≡ end → meet (drop (next s) s) ≡ end → Seen s
+  holds : (u : List ℕ) (m : ℕ) → meet s ≡ unit (next s + 3) u (next s + m) → meet (drop (next s) s) ≡ unit 3 u m → Seen s
+
+pub seen : (s : List ℕ) → Calm s → Seen s
+seen s c = either (length s) (next s) (λ h. ends (meet-end s c h) (rw (drop-of-length-le s h) meet-nil)) some
+  where
+    some : next s < length s → Seen s
+    some h =
+        let t = drop 3 (drop (next s) s) in
+        let e = code-is (drop (next s) s) (next-there s h) in
+        holds (trim (take (next t) t)) (suc (suc (suc (next t)))) (meet-unit s t c e) (rw e (meet-start t))
+
+-- a unit that is met whole: it does not end in zero, and no start code stands in it
+pub record Whole (u : List ℕ) : Type 0 where
+  pub ends : 0 < lastOf 0 u
+  pub clear : next u ≡ length u
+
+-- behind its start code and before calm bytes, it is what the walk meets, which then moves to the next start code or the end
+pub meet-whole : (u t : List ℕ) → Whole u → Calm t → meet (startCode (u ++ t)) ≡ unit 3 u (suc (suc (suc (length u + next t))))
+meet-whole u t w c =
+    rw (meet-start (u ++ t), next-join u t (last-above 1 u (omega arith) (w .ends)) (w .clear), take-append-add u t (next t), trim-join u (take (next t) t) (w .ends) c) refl
