@@ -5,3 +5,5 @@ pub mod Walk
 pub mod Scan
 pub mod Calls
 pub mod Frame
+pub mod Cut
+pub mod Damage

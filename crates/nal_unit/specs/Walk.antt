@@ -16,7 +16,7 @@ use Prim.Native.Nat.{ℕ, zero, suc, _+_, _≤_, _<_}
 use native.Mathlib.Nat.{zero-add}
 use native.Mathlib.Omega.{arith}
 use lib.Dec.{eqb}
-use lib.ListN.{length, take, drop, drop-of-length-le}
+use lib.ListN.{length, take, drop, length-drop, drop-of-length-le}
 use lib.Seq.{length-take-le, take-append-add}
 use borrow.Author.Tests.{eqb-true, eqb-false, ne-eqb}
 use Rattle.nal_unit.specs.Bytes.{lastOf, last-above}
@@ -80,6 +80,10 @@ code-is (a ∷ b ∷ c ∷ t) e =
     let q = and-eq-true-iff (eqb b 0) (eqb c 1) .0 (p .1) in
     rw (eqb-true a 0 (p .0), eqb-true b 0 (q .0), eqb-true c 1 (q .1)) refl
 
+-- it stands wholly in s
+pub code-fits : (s : List ℕ) (i : ℕ) → code (drop i s) ≡ true → i + 3 ≤ length s
+code-fits s i e = omega (arith, ap length (code-is (drop i s) e), length-drop i s)
+
 pub next-nil : next [] ≡ 0
 unfolding next
 next-nil = refl
@@ -89,6 +93,9 @@ pub next-code : (s : List ℕ) → code s ≡ true → next s ≡ 0
 unfolding next
 next-code [] e = refl
 next-code (x ∷ t) e = rw e refl
+
+pub next-start : (t : List ℕ) → next (startCode t) ≡ 0
+next-start t = next-code (startCode t) (code-start t)
 
 -- one byte on where none stands
 pub next-past : (x : ℕ) (t : List ℕ) → code (x ∷ t) ≡ false → next (x ∷ t) ≡ suc (next t)
@@ -175,7 +182,7 @@ clear-take (suc m) (x ∷ c) h =
 
 -- a start code that stands is reached at the latest
 pub next-most : (y t : List ℕ) → next (y ++ startCode t) ≤ length y
-next-most [] t = omega (arith, next-code (startCode t) (code-start t))
+next-most [] t = omega (arith, next-start t)
 next-most (x ∷ y) t = by (code (x ∷ (y ++ startCode t))) refl (next-most y t)
   where
     by : (b : Bool) → code (x ∷ (y ++ startCode t)) ≡ b → next (y ++ startCode t) ≤ length y → next (x ∷ (y ++ startCode t)) ≤ suc (length y)
@@ -189,6 +196,23 @@ apart [] t e = inl refl
 apart (a ∷ []) t e = absurd (true≢false (sym (and-eq-true-iff (eqb a 0) false .0 e .1)))
 apart (a ∷ b ∷ []) t e = absurd (true≢false (sym (and-eq-true-iff (eqb b 0) false .0 (and-eq-true-iff (eqb a 0) (eqb b 0 && false) .0 e .1) .1)))
 apart (a ∷ b ∷ c ∷ z) t e = inr (code-is (a ∷ b ∷ c ∷ z) e)
+
+-- zeros hold none
+code-blank : (s : List ℕ) → blank s ≡ true → code s ≡ false
+unfolding blank code
+code-blank [] e = refl
+code-blank (x ∷ []) e = refl
+code-blank (x ∷ y ∷ []) e = refl
+code-blank (x ∷ y ∷ z ∷ s) e =
+    let p = and-eq-true-iff (eqb x 0) (eqb y 0 && (eqb z 0 && blank s)) .0 e in
+    let q = and-eq-true-iff (eqb y 0) (eqb z 0 && blank s) .0 (p .1) in
+    let r = and-eq-true-iff (eqb z 0) (blank s) .0 (q .1) in
+    rw (eqb-true z 0 (r .0)) (simp and-false)
+
+pub next-blank : (s : List ℕ) → blank s ≡ true → next s ≡ length s
+unfolding blank
+next-blank [] e = next-nil
+next-blank (x ∷ s) e = clear-cons x s (code-blank (x ∷ s) e) (next-blank s (and-eq-true-iff (eqb x 0) (blank s) .0 e .1))
 
 -- Trimming
 
@@ -311,7 +335,13 @@ pub record Whole (u : List ℕ) : Type 0 where
   pub ends : 0 < lastOf 0 u
   pub clear : next u ≡ length u
 
--- behind its start code and before calm bytes, it is what the walk meets, which then moves to the next start code or the end
+-- before calm bytes, it runs to the next start code or the end, and trimming takes off what is not its own
+pub whole-next : (u t : List ℕ) → Whole u → next (u ++ t) ≡ length u + next t
+whole-next u t w = next-join u t (last-above 1 u (omega arith) (w .ends)) (w .clear)
+
+pub whole-unit : (u t : List ℕ) → Whole u → Calm t → trim (take (next (u ++ t)) (u ++ t)) ≡ u
+whole-unit u t w c = rw (whole-next u t w, take-append-add u t (next t)) (trim-join u (take (next t) t) (w .ends) c)
+
+-- so that behind its start code it is what the walk meets, which then moves to the next start code or the end
 pub meet-whole : (u t : List ℕ) → Whole u → Calm t → meet (startCode (u ++ t)) ≡ unit 3 u (suc (suc (suc (length u + next t))))
-meet-whole u t w c =
-    rw (meet-start (u ++ t), next-join u t (last-above 1 u (omega arith) (w .ends)) (w .clear), take-append-add u t (next t), trim-join u (take (next t) t) (w .ends) c) refl
+meet-whole u t w c = rw (meet-start (u ++ t), whole-unit u t w c, whole-next u t w) refl
