@@ -22,11 +22,11 @@ unfolding lastOf
 last-append d [] ys = refl
 last-append d (x ∷ xs) ys = last-append x xs ys
 
--- where the last element is above 0 although 0 stands for none, it is above 0 whatever does
-pub last-above : (d : ℕ) (xs : List ℕ) → 0 < d → 0 < lastOf 0 xs → 0 < lastOf d xs
+-- whether the last element is above 0 does not turn on what stands for none, if that is above 0
+pub last-above : (c d : ℕ) (xs : List ℕ) → 0 < d → 0 < lastOf c xs → 0 < lastOf d xs
 unfolding lastOf
-last-above d [] h l = h
-last-above d (x ∷ xs) h l = l
+last-above c d [] h l = h
+last-above c d (x ∷ xs) h l = l
 
 pub drop-three : (s : List ℕ) (i : ℕ) → i + 3 ≤ length s → drop i s ≡ getD s i 0 ∷ getD s (i + 1) 0 ∷ getD s (i + 2) 0 ∷ drop (i + 3) s
 drop-three s i h =

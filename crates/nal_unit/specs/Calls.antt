@@ -5,18 +5,23 @@
 --     answers bytes n h p     the answers of n calls in turn, from the place p with h held
 --     after bytes n h p       what is held then, and the place
 --     ans, aft                the same over the bytes from the place on: a call looks at nothing before its place
---     calm                    zeros before a start code or the end change no answer
 --     shift, suffix           bytes put in front move the offsets and change nothing else
+--     align                   zeros before a start code or the end change no answer
+--     Steady P                no unit takes what is held out of P, and none makes a call keep its place
+--     ends                    every reading ends
 -- A count of calls serves where others would take fuel: a call that answers End keeps its place, so "for every n" says all.
 -- Assumes nothing.
 use mathlib.Core.Path.{_≡_, refl, ap}
 use mathlib.Core.List.{List, [], _∷_, _++_, map}
+use mathlib.Core.Logic.{_⊎_, inl, inr}
 use mathlib.Core.Bool.{Bool, true, false, cond}
-use Prim.Native.Nat.{ℕ, zero, suc, _+_}
+use Prim.Native.Nat.{ℕ, zero, suc, _+_, _≤_, _<_}
 use native.Mathlib.Nat.{add-assoc, zero-add, suc-add, add-zero}
-use lib.ListN.{length, drop}
+use native.Mathlib.Omega.{arith}
+use lib.ListN.{length, take, drop, replicate, length-drop}
 use lib.Seq.{drop-drop, drop-append-add}
-use Rattle.nal_unit.specs.Walk.{next, Met, end, stray, unit, meet, Calm, Seen, ends, holds, seen}
+use Rattle.lists.specs.Test.{either}
+use Rattle.nal_unit.specs.Walk.{startCode, next, blank, trim, code-is, next-there, Met, end, stray, unit, meet, Calm, meet-nil, meet-stray, stray-some, meet-end, meet-unit, Seen, over, holds, seen}
 
 -- what a judge says of a unit
 pub record Verdict (H A : Type 0) : Type 0 where
@@ -153,7 +158,75 @@ module _ {H A : Type 0} (judge : H → List ℕ → Verdict H A) where
       judged false k m ih = rw (drop-drop m (next s) s, add-assoc p (next s) m) refl
 
       by : Seen s → ((k : H) (q : ℕ) → ans n k q s ≡ ans n k (q + next s) here) → ans (suc n) h p s ≡ ans (suc n) h (p + next s) here
-      by (ends e f) ih = rw (e, f, add-zero p, add-zero (p + next s)) (ap (λ (l : List (Say A)). ended ∷ l) (ih h p))
+      by (over e f) ih = rw (e, f, add-zero p, add-zero (p + next s)) (ap (λ (l : List (Say A)). ended ∷ l) (ih h p))
       by (holds u m e f) ih =
           rw (e, f, add-assoc p (next s) 3)
           (ap (λ (l : List (Say A)). said (p + (next s + 3)) (judge h u .word) ∷ l) (judged (judge h u .stay) (judge h u .held) m ih))
+
+  -- no unit takes what is held out of P, and none makes a call keep its place: for the reader, that both parameter sets are held and the planes suffice
+  pub record Steady (P : H → Type 0) : Type 0 where
+    pub keeps : (h : H) → P h → (u : List ℕ) → P (judge h u .held)
+    pub moves : (h : H) → P h → (u : List ℕ) → judge h u .stay ≡ false
+
+  -- the strictest: no unit changes h
+  pub record Full (h : H) : Type 0 where
+    pub keeps : (u : List ℕ) → judge h u .held ≡ h
+    pub moves : (u : List ℕ) → judge h u .stay ≡ false
+
+  pub steady : {h : H} → Full h → Steady (λ i. i ≡ h)
+  steady {h} f = record { keeps = λ i e u. rw e (f .keeps u); moves = λ i e u. rw e (f .moves u) }
+
+  -- where the walk meets the end, nothing but End is answered
+  pub at-end : (n : ℕ) (h : H) (p : ℕ) (s : List ℕ) → meet s ≡ end → ans n h p s ≡ replicate n ended
+  unfolding ans at
+  at-end zero h p s e = refl
+  at-end (suc n) h p s e = rw (turn-end h s e, at-end n h (p + 0) s e) refl
+
+  -- elsewhere a call moves
+  onwards : {P : H → Type 0} → Steady P → (h : H) (s : List ℕ) → P h → (meet s ≡ end) ⊎ ((0 < turn h s .moved) × P (turn h s .held))
+  onwards {P} st h s i = by (blank (take (next s) s)) refl
+    where
+      unit-moves : (t : List ℕ) → Calm s → drop (next s) s ≡ startCode t → (0 < turn h s .moved) × P (turn h s .held)
+      unit-moves t c e =
+          let u = trim (take (next t) t) in
+          rw (turn-unit h s (next s + 3) u (next s + suc (suc (suc (next t)))) (meet-unit s t c e), st .moves h i u) (omega arith, st .keeps h i u)
+
+      by : (b : Bool) → blank (take (next s) s) ≡ b → (meet s ≡ end) ⊎ ((0 < turn h s .moved) × P (turn h s .held))
+      by true c = either (length s) (next s) (λ l. inl (meet-end s c l)) (λ l. inr (unit-moves (drop 3 (drop (next s) s)) c (code-is (drop (next s) s) (next-there s l))))
+      by false c = inr (rw (turn-stray h s (next s) (meet-stray s c)) (stray-some s c, i))
+
+  -- Every reading ends: after as many calls as there are bytes left, or fewer, each further call answers End.
+  pub record Ends (h : H) (p : ℕ) (s : List ℕ) : Type 0 where
+    pub calls : ℕ
+    pub most : calls ≤ length s
+    pub reads : (k : ℕ) → ans (calls + k) h p s ≡ ans calls h p s ++ replicate k ended
+
+  pub ends : {P : H → Type 0} → Steady P → (h : H) (p : ℕ) (s : List ℕ) → P h → Ends h p s
+  unfolding ans
+  ends {P} st h p s i = go (length s) h p s (omega arith) i
+    where
+      done : (h : H) (p : ℕ) (s : List ℕ) → meet s ≡ end → Ends h p s
+      done h p s e = record { calls = 0; most = omega arith; reads = λ k. rw (zero-add k) (at-end k h p s e) }
+
+      empty : (s : List ℕ) → length s ≤ 0 → meet s ≡ end
+      empty [] l = meet-nil
+      empty (x ∷ s) l = absurd (omega arith)
+
+      more : (h : H) (p : ℕ) (s : List ℕ) → 0 < length s → (meet s ≡ end) ⊎ ((0 < turn h s .moved) × P (turn h s .held))
+          → (0 < turn h s .moved → P (turn h s .held) → Ends (turn h s .held) (p + turn h s .moved) (drop (turn h s .moved) s)) → Ends h p s
+      more h p s l (inl e) ih = done h p s e
+      more h p s l (inr m) ih =
+          let t = turn h s in
+          let g = ih (m .0) (m .1) in
+          record {
+            calls = suc (g .calls);
+            most = omega (arith, m .0, g .most, length-drop (t .moved) s);
+            reads = λ k. rw (suc-add (g .calls) k) (ap (λ (l : List (Say A)). at p (t .say) ∷ l) (g .reads k));
+          }
+
+      go : (f : ℕ) (h : H) (p : ℕ) (s : List ℕ) → length s ≤ f → P h → Ends h p s
+      go zero h p s l i = done h p s (empty s l)
+      go (suc f) h p s l i =
+          let t = turn h s in
+          either (length s) 0 (λ z. done h p s (empty s z))
+          (λ z. more h p s z (onwards st h s i) (λ m k. go f (t .held) (p + t .moved) (drop (t .moved) s) (omega (arith, length-drop (t .moved) s)) k))

@@ -15,9 +15,9 @@ use lib.Dec.{leb}
 use lib.ListN.{length, take, replicate, length-append}
 use lib.Seq.{take-nil, take-append-add, take-append-le, take-length, drop-length}
 use borrow.Author.Tests.{leb-true, leb-false}
-use Rattle.nal_unit.specs.Walk.{startCode, code, next, blank, trim, Calm, calm-blank, calm-start, clear-take, meet-start}
-use Rattle.nal_unit.specs.Calls.{Verdict, Say, ended, said, at, ans, answers, turn-unit, align, answers-ans}
-use Rattle.nal_unit.specs.Frame.{joined, placeBy, heldBy, says, Goes, frame, at-zeros, at-end}
+use Rattle.nal_unit.specs.Walk.{startCode, code, next, blank, trim, Calm, calm-blank, calm-start, clear-take, meet-nil, meet-blank, meet-start}
+use Rattle.nal_unit.specs.Calls.{at-end, Verdict, Say, ended, said, at, ans, answers, turn-unit, align, answers-ans}
+use Rattle.nal_unit.specs.Frame.{joined, placeBy, heldBy, says, Goes, frame}
 
 unfoldable pub kept : ℕ → List (List ℕ) → List (List ℕ)
 kept n [] = []
@@ -130,12 +130,12 @@ module _ {H A : Type 0} (judge : H → List ℕ → Verdict H A) where
       → ans judge (suc k) h p (startCode c) ≡ said (p + 3) (judge h (trim c) .word) ∷ replicate k ended
   unfolding ans at
   at-broken k h p c e m =
-      rw (turn-unit judge h (startCode c) 3 (trim (take (next c) c)) (suc (suc (suc (next c)))) (meet-start c), e, take-length c, m, drop-length c, at-end judge k (judge h (trim c) .held) (p + suc (suc (suc (length c))))) refl
+      rw (turn-unit judge h (startCode c) 3 (trim (take (next c) c)) (suc (suc (suc (next c)))) (meet-start c), e, take-length c, m, drop-length c, at-end judge k (judge h (trim c) .held) (p + suc (suc (suc (length c)))) [] meet-nil) refl
 
   at-rest : (k : ℕ) (h : H) (p : ℕ) (s : List ℕ) (left : Option (List ℕ)) → Rest s left → Moves h left
       → ans judge (length (tell h p left) + k) h p s ≡ tell h p left ++ replicate k ended
   unfolding tell next code
-  at-rest k h p s left (zeros e f) m = rw (f, zero-add k) (at-zeros judge k h p s e)
+  at-rest k h p s left (zeros e f) m = rw (f, zero-add k) (at-end judge k h p s (meet-blank s e))
   at-rest k h p s left (start c e f l) m =
       let q : p + 1 + 3 ≡ p + 4 = omega arith in
       let n : 1 + k ≡ suc k = omega arith in

@@ -1,7 +1,5 @@
 -- Damage: a stretch of the bytes is replaced by any bytes, more or fewer. Whatever they are, a walk that stands at a start code before them arrives at
 -- each start code that stands wholly behind them, since two start codes never overlap; from there on it answers what it would have.
---     Steady P        no unit can take what is held out of P or keep the place: for the reader, both parameter sets held and planes that suffice
---     Full h          the strictest: no unit changes h
 --     Arrives         some calls lead from one place to another, and to something held in P
 --     damage          the walk over a ++ (m ++ b) arrives, for every m
 --     onward          from there on, the answers for one m are those for another, with their offsets moved
@@ -17,7 +15,7 @@ use native.Mathlib.Omega.{arith}
 use lib.ListN.{length, take, drop, length-append, length-drop, take-append-drop}
 use lib.Seq.{length-take-le, drop-append-le, drop-append-add, drop-drop}
 use Rattle.nal_unit.specs.Walk.{startCode, code, next, blank, trim, code-is, code-start, code-fits, next-code, next-start, next-there, next-most, apart, Calm, calm-code, meet-unit, Whole, whole-next, whole-unit}
-use Rattle.nal_unit.specs.Calls.{Verdict, Say, ended, astray, said, at, State, answers, after, aft, turn-unit, after-aft, answers-add, suffix}
+use Rattle.nal_unit.specs.Calls.{Steady, Full, steady, Verdict, Say, ended, astray, said, at, State, answers, after, aft, turn-unit, after-aft, answers-add, suffix}
 use Rattle.nal_unit.specs.Frame.{joined, joined-more, heldBy, Goes}
 
 -- an answer behind a stretch of m bytes, where the stretch has m′ bytes instead
@@ -66,17 +64,6 @@ lead-append [] t r = refl
 lead-append (u ∷ us) t r = rw (lead-append us t r, append-assoc u (0 ∷ lead us t) r) refl
 
 module _ {H A : Type 0} (judge : H → List ℕ → Verdict H A) where
-  pub record Steady (P : H → Type 0) : Type 0 where
-    pub keeps : (h : H) → P h → (u : List ℕ) → P (judge h u .held)
-    pub moves : (h : H) → P h → (u : List ℕ) → judge h u .stay ≡ false
-
-  pub record Full (h : H) : Type 0 where
-    pub keeps : (u : List ℕ) → judge h u .held ≡ h
-    pub moves : (u : List ℕ) → judge h u .stay ≡ false
-
-  pub steady : {h : H} → Full h → Steady (λ i. i ≡ h)
-  steady {h} f = record { keeps = λ i e u. rw e (f .keeps u); moves = λ i e u. rw e (f .moves u) }
-
   pub record Arrives (P : H → Type 0) (bytes : List ℕ) (h : H) (p q : ℕ) : Type 0 where
     pub calls : ℕ
     pub holds : P (after judge bytes calls h p .held)
@@ -98,7 +85,7 @@ module _ {H A : Type 0} (judge : H → List ℕ → Verdict H A) where
   aft-call n h p s r c e m =
       rw (turn-unit judge h s (next s + 3) (trim (take (next r) r)) (next s + suc (suc (suc (next r)))) (meet-unit s r c e), m, ← drop-drop (suc (suc (suc (next r)))) (next s) s, e) refl
 
-  past : {P : H → Type 0} → Steady P → (h : H) (p : ℕ) (s r : List ℕ) {q : ℕ} (o : ℕ) → Calm s → drop (next s) s ≡ startCode r → P h
+  past : {P : H → Type 0} → Steady judge P → (h : H) (p : ℕ) (s r : List ℕ) {q : ℕ} (o : ℕ) → Calm s → drop (next s) s ≡ startCode r → P h
       → p + (next s + suc (suc (suc (next r)))) ≡ o → ((i : H) → P i → Gets P (drop (next r) r) i o q) → Gets P s h p q
   past st h p s r o c e i f k =
       let u = trim (take (next r) r) in
@@ -107,7 +94,7 @@ module _ {H A : Type 0} (judge : H → List ℕ → Verdict H A) where
       record { calls = suc (g .calls); holds = rw a (g .holds); there = rw a (g .there) }
 
   -- from start code to start code: none is beyond the one that stands behind y, and none overlaps it
-  reach : {P : H → Type 0} → Steady P → (f : ℕ) (h : H) (p : ℕ) (y t : List ℕ) → length y ≤ f → P h
+  reach : {P : H → Type 0} → Steady judge P → (f : ℕ) (h : H) (p : ℕ) (y t : List ℕ) → length y ≤ f → P h
       → Gets P (drop (next (y ++ startCode t)) (y ++ startCode t)) h (p + next (y ++ startCode t)) (p + length y)
   unfolding aft
   reach {P} st zero h p y t l i = record { calls = 0; holds = i; there = omega (arith, next-most y t) }
@@ -147,7 +134,7 @@ module _ {H A : Type 0} (judge : H → List ℕ → Verdict H A) where
       rw (whole-unit u r w d, whole-next u r w, drop-append-add u r (next r)) at (aft-call n h p s (u ++ r) c e (rw (whole-unit u r w d) m))
 
   -- over whole units to a start code, and from there as above
-  along : {P : H → Type 0} → Steady P → (us : List (List ℕ)) (h : H) (p : ℕ) (s y t : List ℕ) → Calm s → drop (next s) s ≡ lead us (y ++ startCode t)
+  along : {P : H → Type 0} → Steady judge P → (us : List (List ℕ)) (h : H) (p : ℕ) (s y t : List ℕ) → Calm s → drop (next s) s ≡ lead us (y ++ startCode t)
       → Goes judge h us → P (heldBy judge h us) → Gets P s h p (p + (next s + length (lead us y)))
   unfolding lead heldBy
   along st [] h p s y t c e g i =
@@ -175,7 +162,7 @@ module _ {H A : Type 0} (judge : H → List ℕ → Verdict H A) where
           rw q (record { calls = suc (r .calls); holds = rw f (r .holds); there = rw f (r .there) })
 
   -- From any place in a at which a start code stands, for every stretch m: the walk arrives at each start code that stands in b, whatever m is.
-  pub damage : {P : H → Type 0} → Steady P → (a m b : List ℕ) (h : H) (p k : ℕ) → P h → code (drop p a) ≡ true → code (drop k b) ≡ true
+  pub damage : {P : H → Type 0} → Steady judge P → (a m b : List ℕ) (h : H) (p k : ℕ) → P h → code (drop p a) ≡ true → code (drop k b) ≡ true
       → Arrives P (a ++ (m ++ b)) h p (length a + (length m + k))
   unfolding lead heldBy
   damage st a m b h p k i e f =
@@ -189,7 +176,7 @@ module _ {H A : Type 0} (judge : H → List ℕ → Verdict H A) where
       arrives (a ++ (m ++ b)) (rw (s, q) (along st [] h p (startCode (y ++ startCode t)) y t (calm-code (startCode (y ++ startCode t)) (code-start (y ++ startCode t))) (rw (next-start (y ++ startCode t)) refl) tt i))
 
   -- From the first byte: a is whole units, behind which what is held is in P, then a start code, then anything.
-  pub damage-first : {P : H → Type 0} → Steady P → (us : List (List ℕ)) (a x m b : List ℕ) (h : H) (k : ℕ) → a ≡ joined us (0 ∷ startCode x)
+  pub damage-first : {P : H → Type 0} → Steady judge P → (us : List (List ℕ)) (a x m b : List ℕ) (h : H) (k : ℕ) → a ≡ joined us (0 ∷ startCode x)
       → Goes judge h us → P (heldBy judge h us) → code (drop k b) ≡ true → Arrives P (a ++ (m ++ b)) h 0 (length a + (length m + k))
   damage-first st us a x m b h k v g i f =
       let y = x ++ (m ++ take k b) in
@@ -225,9 +212,9 @@ module _ {H A : Type 0} (judge : H → List ℕ → Verdict H A) where
   -- The whole reading of damaged bytes, m′ in place of m, from the first byte: some answers, and then those that the undamaged bytes give from the
   -- start code at k in b on, with their offsets moved. (a as above: whole units, then a start code, then anything.)
   pub damage-reads : (us : List (List ℕ)) (a x m m′ b : List ℕ) (h : H) (k : ℕ) → a ≡ joined us (0 ∷ startCode x) → Goes judge h us
-      → Full (heldBy judge h us) → code (drop k b) ≡ true
+      → Full judge (heldBy judge h us) → code (drop k b) ≡ true
       → (n : ℕ) × ((j : ℕ) → answers judge (a ++ (m′ ++ b)) (n + j) h 0
       ≡ answers judge (a ++ (m′ ++ b)) n h 0 ++ map (moved (length m) (length m′)) (answers judge (a ++ (m ++ b)) j (heldBy judge h us) (length a + (length m + k))))
   damage-reads us a x m m′ b h k v g f e =
-      let r = damage-first (steady f) us a x m′ b h k v g refl e in
+      let r = damage-first (steady judge f) us a x m′ b h k v g refl e in
       (r .calls, λ j. resumes r j ∙ ap (λ (l : List (Say A)). answers judge (a ++ (m′ ++ b)) (r .calls) h 0 ++ l) (onward a m m′ b j (heldBy judge h us) k))

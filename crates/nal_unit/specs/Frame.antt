@@ -8,14 +8,14 @@
 -- Assumes nothing.
 use mathlib.Core.Path.{_≡_, refl, sym, ap, _∙_}
 use mathlib.Core.List.{List, [], _∷_, _++_, append-assoc}
-use mathlib.Core.Bool.{true, false}
-use Prim.Native.Nat.{ℕ, zero, suc, _+_}
-use native.Mathlib.Nat.{zero-add, suc-add, add-zero, le-of-eq}
+use mathlib.Core.Bool.{false}
+use Prim.Native.Nat.{ℕ, suc, _+_}
+use native.Mathlib.Nat.{zero-add, suc-add, add-zero}
 use native.Mathlib.Omega.{arith}
 use lib.ListN.{length, drop, replicate, length-append}
 use lib.Seq.{drop-append-add}
-use Rattle.nal_unit.specs.Walk.{startCode, code, next, blank, next-blank, Calm, calm-nil, calm-blank, calm-start, meet-end, meet-whole, Whole}
-use Rattle.nal_unit.specs.Calls.{Verdict, Say, ended, said, at, ans, answers, turn-end, turn-unit, align, answers-ans}
+use Rattle.nal_unit.specs.Walk.{startCode, code, next, Calm, calm-nil, calm-start, meet-nil, meet-whole, Whole}
+use Rattle.nal_unit.specs.Calls.{Verdict, Say, ended, said, at, ans, answers, at-end, turn-unit, align, answers-ans}
 
 unfoldable pub joined : List (List ℕ) → List ℕ → List ℕ
 joined [] t = t
@@ -79,17 +79,6 @@ module _ {H A : Type 0} (judge : H → List ℕ → Verdict H A) where
       let e : p + 1 + 3 ≡ p + 4 = omega arith in
       align judge (suc n) h p (0 ∷ startCode (u ++ t)) (calm-start (u ++ t)) ∙ rw e at (call n h (p + 1) u t w s c)
 
-  -- where nothing but zeros is left, nothing but End is answered
-  pub at-zeros : (n : ℕ) (h : H) (p : ℕ) (s : List ℕ) → blank s ≡ true → ans judge n h p s ≡ replicate n ended
-  unfolding ans at
-  at-zeros zero h p s e = refl
-  at-zeros (suc n) h p s e =
-      rw (turn-end judge h s (meet-end s (calm-blank s e) (le-of-eq (sym (next-blank s e)))), at-zeros n h (p + 0) s e) refl
-
-  pub at-end : (n : ℕ) (h : H) (p : ℕ) → ans judge n h p [] ≡ replicate n ended
-  unfolding blank
-  at-end n h p = at-zeros n h p [] refl
-
   pub frame : (n : ℕ) (h : H) (p : ℕ) (us : List (List ℕ)) (t : List ℕ) → Goes h us → Calm t
       → ans judge (length us + n) h p (joined us t) ≡ says h p us ++ ans judge n (heldBy h us) (placeBy p us) t
   unfolding joined says heldBy placeBy
@@ -102,4 +91,4 @@ module _ {H A : Type 0} (judge : H → List ℕ → Verdict H A) where
   reads n h us g =
       answers-ans judge (joined us []) (length us + n) h 0
       ∙ frame n h 0 us [] g calm-nil
-      ∙ ap (λ (l : List (Say A)). says h 0 us ++ l) (at-end n (heldBy h us) (placeBy 0 us))
+      ∙ ap (λ (l : List (Say A)). says h 0 us ++ l) (at-end judge n (heldBy h us) (placeBy 0 us) [] meet-nil)

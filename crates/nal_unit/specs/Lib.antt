@@ -7,3 +7,5 @@ pub mod Calls
 pub mod Frame
 pub mod Cut
 pub mod Damage
+pub mod Units
+pub mod Plain

@@ -7,7 +7,7 @@
 --     fault-take       nor has what is left of faultless bytes after a cut
 --     un-take          what is left of an escape after a cut unescapes to the first bytes of the payload, to fewer than all if the cut took any
 -- Assumes nothing.
-use mathlib.Core.Path.{_≡_, refl, sym, ap, _∙_}
+use mathlib.Core.Path.{_≡_, refl, ap, _∙_}
 use mathlib.Core.List.{List, [], _∷_, _++_}
 use mathlib.Core.Bool.{Bool, true, false, cond, _&&_, _||_, and-eq-true-iff, and-false, true≢false}
 use Prim.Native.Nat.{ℕ, zero, suc, _+_, _≤_, _<_}
@@ -226,16 +226,21 @@ here-take (suc (suc (suc m))) (a ∷ b ∷ c ∷ t) e = by (eqb a 0) (eqb b 0) (
     by true true false false e = refl
     by true true false true e = over3-take m t e
 
-neither : (a b : Bool) → (a || b) ≡ false → (a ≡ false) × (b ≡ false)
-neither true b e = absurd (true≢false e)
-neither false b e = (refl, e)
+-- faultless bytes: there is none at the front, and none behind the first
+pub fault-none : (x : ℕ) (t : List ℕ) → fault (x ∷ t) ≡ false → (faultHere (x ∷ t) ≡ false) × (fault t ≡ false)
+unfolding fault
+fault-none x t e = neither (faultHere (x ∷ t)) e
+  where
+    neither : (b : Bool) → (b || fault t) ≡ false → (b ≡ false) × (fault t ≡ false)
+    neither true e = absurd (true≢false e)
+    neither false e = (refl, e)
 
 -- a cut makes no fault
 pub fault-take : (m : ℕ) (s : List ℕ) → fault s ≡ false → fault (take m s) ≡ false
 fault-take zero s e = fault-nil
 fault-take (suc m) [] e = fault-nil
 fault-take (suc m) (x ∷ t) e =
-    let n = neither (faultHere (x ∷ t)) (fault t) (sym (fault-cons x t) ∙ e) in
+    let n = fault-none x t e in
     fault-past x (take m t) (here-take (suc m) (x ∷ t) (n .0)) ∙ fault-take m t (n .1)
 
 -- nor has any start of an escape one

@@ -144,13 +144,13 @@ pub clear-cons : (x : ℕ) (t : List ℕ) → code (x ∷ t) ≡ false → next 
 clear-cons x t e h = next-past x t e ∙ ap suc h
 
 -- no start code begins or goes on with a byte above 0
-code-first : (x : ℕ) (t : List ℕ) → 0 < x → code (x ∷ t) ≡ false
+pub code-first : (x : ℕ) (t : List ℕ) → 0 < x → code (x ∷ t) ≡ false
 unfolding code
 code-first x [] h = refl
 code-first x (b ∷ []) h = refl
 code-first x (b ∷ c ∷ t) h = rw (ne-eqb x 0 (λ e. omega arith)) refl
 
-code-second : (a x : ℕ) (t : List ℕ) → 0 < x → code (a ∷ x ∷ t) ≡ false
+pub code-second : (a x : ℕ) (t : List ℕ) → 0 < x → code (a ∷ x ∷ t) ≡ false
 unfolding code
 code-second a x [] h = refl
 code-second a x (c ∷ t) h = rw (ne-eqb x 0 (λ e. omega arith), and-false) refl
@@ -308,9 +308,21 @@ pub meet-stray : (s : List ℕ) → blank (take (next s) s) ≡ false → meet s
 unfolding meet
 meet-stray s e = rw e refl
 
+-- stray bytes are at least one
+pub stray-some : (s : List ℕ) → blank (take (next s) s) ≡ false → 0 < next s
+unfolding blank
+stray-some s e = by (next s) e
+  where
+    by : (n : ℕ) → blank (take n s) ≡ false → 0 < n
+    by zero e = absurd (true≢false e)
+    by (suc n) e = omega arith
+
 pub meet-end : (s : List ℕ) → Calm s → length s ≤ next s → meet s ≡ end
 unfolding meet behind
 meet-end s c h = rw (c, drop-of-length-le s h) refl
+
+pub meet-blank : (s : List ℕ) → blank s ≡ true → meet s ≡ end
+meet-blank s e = meet-end s (calm-blank s e) (omega (arith, next-blank s e))
 
 pub meet-unit : (s t : List ℕ) → Calm s → drop (next s) s ≡ startCode t → meet s ≡ unit (next s + 3) (trim (take (next t) t)) (next s + suc (suc (suc (next t))))
 unfolding meet behind
@@ -318,11 +330,11 @@ meet-unit s t c e = rw (c, e) refl
 
 -- what a walk meets in calm bytes is what it meets at their next start code or end
 pub data Seen (s : List ℕ) : Type 0 where
-  ends : meet s ≡ end → meet (drop (next s) s) ≡ end → Seen s
+  over : meet s ≡ end → meet (drop (next s) s) ≡ end → Seen s
   holds : (u : List ℕ) (m : ℕ) → meet s ≡ unit (next s + 3) u (next s + m) → meet (drop (next s) s) ≡ unit 3 u m → Seen s
 
 pub seen : (s : List ℕ) → Calm s → Seen s
-seen s c = either (length s) (next s) (λ h. ends (meet-end s c h) (rw (drop-of-length-le s h) meet-nil)) some
+seen s c = either (length s) (next s) (λ h. over (meet-end s c h) (rw (drop-of-length-le s h) meet-nil)) some
   where
     some : next s < length s → Seen s
     some h =
@@ -337,7 +349,7 @@ pub record Whole (u : List ℕ) : Type 0 where
 
 -- before calm bytes, it runs to the next start code or the end, and trimming takes off what is not its own
 pub whole-next : (u t : List ℕ) → Whole u → next (u ++ t) ≡ length u + next t
-whole-next u t w = next-join u t (last-above 1 u (omega arith) (w .ends)) (w .clear)
+whole-next u t w = next-join u t (last-above 0 1 u (omega arith) (w .ends)) (w .clear)
 
 pub whole-unit : (u t : List ℕ) → Whole u → Calm t → trim (take (next (u ++ t)) (u ++ t)) ≡ u
 whole-unit u t w c = rw (whole-next u t w, take-append-add u t (next t)) (trim-join u (take (next t) t) (w .ends) c)
