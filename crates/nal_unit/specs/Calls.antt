@@ -8,7 +8,7 @@
 --     shift, suffix           bytes put in front move the offsets and change nothing else
 --     align                   zeros before a start code or the end change no answer
 --     Steady P                no unit takes what is held out of P, and none makes a call keep its place
---     ends                    every reading ends
+--     reading-ends            every reading ends
 -- A count of calls serves where others would take fuel: a call that answers End keeps its place, so "for every n" says all.
 -- Assumes nothing.
 use mathlib.Core.Path.{_≡_, refl, ap}
@@ -21,9 +21,10 @@ use native.Mathlib.Omega.{arith}
 use lib.ListN.{length, take, drop, replicate, length-drop}
 use lib.Seq.{drop-drop, drop-append-add}
 use Rattle.lists.specs.Test.{either}
-use Rattle.nal_unit.specs.Walk.{startCode, next, blank, trim, code-is, next-there, Met, end, stray, unit, meet, Calm, meet-nil, meet-stray, stray-some, meet-end, meet-unit, Seen, over, holds, seen}
+use Rattle.nal_unit.specs.StartCode.{startCode, next, code-is, next-there}
+use Rattle.nal_unit.specs.Walk.{blank, trim, Met, end, stray, unit, meet, Calm, meet-nil, meet-stray, stray-some, meet-end, meet-unit, Seen, over, holds, seen}
 
--- what a judge says of a unit
+-- what a judge says of a unit: the word that is answered, what is held then, and whether the call keeps its place (paper 01's refusal 19 does)
 pub record Verdict (H A : Type 0) : Type 0 where
   pub word : A
   pub held : H
@@ -31,23 +32,24 @@ pub record Verdict (H A : Type 0) : Type 0 where
 
 -- an answer
 --     ended           End
---     astray o        bytes from o on that belong to no unit (refusal 10)
+--     astray o n      n bytes from o on belong to no unit (refusal 10)
 --     said o w        the word w about the unit that begins at o, behind its start code
 pub data Say (A : Type 0) : Type 0 where
   ended : Say A
-  astray : ℕ → Say A
+  astray : ℕ → ℕ → Say A
   said : ℕ → A → Say A
 
 -- an answer counted from p, told from the first byte
 unfoldable pub at : {A : Type 0} → ℕ → Say A → Say A
 at p ended = ended
-at p (astray o) = astray (p + o)
+at p (astray o n) = astray (p + o) n
 at p (said o w) = said (p + o) w
 
+-- counted from p, and that from q
 pub at-at : {A : Type 0} (q p : ℕ) (a : Say A) → at (q + p) a ≡ at q (at p a)
 unfolding at
 at-at q p ended = refl
-at-at q p (astray o) = ap astray (add-assoc q p o)
+at-at q p (astray o n) = ap (λ (k : ℕ). astray k n) (add-assoc q p o)
 at-at q p (said o w) = ap (λ (k : ℕ). said k w) (add-assoc q p o)
 
 -- one call: the answer, how far the place moves, what is held then
@@ -65,17 +67,18 @@ module _ {H A : Type 0} (judge : H → List ℕ → Verdict H A) where
   -- by what the walk meets: End keeps the place, stray bytes are passed, a unit is judged
   unfoldable pub turned : H → Met → Turn H A
   turned h end = record { say = ended; moved = 0; held = h }
-  turned h (stray n) = record { say = astray 0; moved = n; held = h }
+  turned h (stray n) = record { say = astray 0 n; moved = n; held = h }
   turned h (unit o u n) = record { say = said o (judge h u .word); moved = cond (judge h u .stay) 0 n; held = judge h u .held }
 
   unfoldable pub turn : H → List ℕ → Turn H A
   turn h s = turned h (meet s)
 
+  -- the three cases of a call
   pub turn-end : (h : H) (s : List ℕ) → meet s ≡ end → turn h s ≡ record { say = ended; moved = 0; held = h }
   unfolding turn turned
   turn-end h s e = rw e refl
 
-  pub turn-stray : (h : H) (s : List ℕ) (n : ℕ) → meet s ≡ stray n → turn h s ≡ record { say = astray 0; moved = n; held = h }
+  pub turn-stray : (h : H) (s : List ℕ) (n : ℕ) → meet s ≡ stray n → turn h s ≡ record { say = astray 0 n; moved = n; held = h }
   unfolding turn turned
   turn-stray h s n e = rw e refl
 
@@ -84,6 +87,7 @@ module _ {H A : Type 0} (judge : H → List ℕ → Verdict H A) where
   unfolding turn turned
   turn-unit h s o u n e = rw e refl
 
+  -- by place
   unfoldable pub answers : List ℕ → ℕ → H → ℕ → List (Say A)
   answers bytes zero h p = []
   answers bytes (suc n) h p = at p (turn h (drop p bytes) .say) ∷ answers bytes n (turn h (drop p bytes) .held) (p + turn h (drop p bytes) .moved)
@@ -92,6 +96,7 @@ module _ {H A : Type 0} (judge : H → List ℕ → Verdict H A) where
   after bytes zero h p = record { held = h; place = p }
   after bytes (suc n) h p = after bytes n (turn h (drop p bytes) .held) (p + turn h (drop p bytes) .moved)
 
+  -- by what is left
   unfoldable pub ans : ℕ → H → ℕ → List ℕ → List (Say A)
   ans zero h p s = []
   ans (suc n) h p s = at p (turn h s .say) ∷ ans n (turn h s .held) (p + turn h s .moved) (drop (turn h s .moved) s)
@@ -100,6 +105,7 @@ module _ {H A : Type 0} (judge : H → List ℕ → Verdict H A) where
   aft zero h p s = record { held = h; place = p }
   aft (suc n) h p s = aft n (turn h s .held) (p + turn h s .moved) (drop (turn h s .moved) s)
 
+  -- both are the same
   pub answers-ans : (bytes : List ℕ) (n : ℕ) (h : H) (p : ℕ) → answers bytes n h p ≡ ans n h p (drop p bytes)
   unfolding answers ans
   answers-ans bytes zero h p = refl
@@ -173,6 +179,7 @@ module _ {H A : Type 0} (judge : H → List ℕ → Verdict H A) where
     pub keeps : (u : List ℕ) → judge h u .held ≡ h
     pub moves : (u : List ℕ) → judge h u .stay ≡ false
 
+  -- as what `Steady` says of "is h"
   pub steady : {h : H} → Full h → Steady (λ i. i ≡ h)
   steady {h} f = record { keeps = λ i e u. rw e (f .keeps u); moves = λ i e u. rw e (f .moves u) }
 
@@ -195,7 +202,7 @@ module _ {H A : Type 0} (judge : H → List ℕ → Verdict H A) where
       by true c = either (length s) (next s) (λ l. inl (meet-end s c l)) (λ l. inr (unit-moves (drop 3 (drop (next s) s)) c (code-is (drop (next s) s) (next-there s l))))
       by false c = inr (rw (turn-stray h s (next s) (meet-stray s c)) (stray-some s c, i))
 
-  -- Every reading ends: after as many calls as there are bytes left, or fewer, each further call answers End.
+  -- after some calls, no more than there are bytes left, each further call answers End
   pub record Ends (h : H) (p : ℕ) (s : List ℕ) : Type 0 where
     pub calls : ℕ
     pub most : calls ≤ length s
@@ -230,3 +237,11 @@ module _ {H A : Type 0} (judge : H → List ℕ → Verdict H A) where
           let t = turn h s in
           either (length s) 0 (λ z. done h p s (empty s z))
           (λ z. more h p s z (onwards st h s i) (λ m k. go f (t .held) (p + t .moved) (drop (t .moved) s) (omega (arith, length-drop (t .moved) s)) k))
+
+  -- Every reading ends, where no unit makes a call keep its place: after some calls, no more than there are bytes, each further call answers End.
+  pub reading-ends : {P : H → Type 0} → Steady P → (bytes : List ℕ) (h : H) (p : ℕ) → P h
+      → (n : ℕ) × (n ≤ length bytes) × ((k : ℕ) → answers bytes (n + k) h p ≡ answers bytes n h p ++ replicate k ended)
+  reading-ends st bytes h p i =
+      let e = ends st h p (drop p bytes) i in
+      let short : e .calls ≤ length bytes = omega (arith, e .most, length-drop p bytes) in
+      (e .calls, short, λ k. rw (answers-ans bytes (e .calls + k) h p, answers-ans bytes (e .calls) h p) (e .reads k))

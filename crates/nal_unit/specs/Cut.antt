@@ -1,4 +1,4 @@
--- Units in a row, cut at any byte: what a walk over the first n bytes answers (paper 01: "each whole unit, then End, or one refusal and End").
+-- Units in a row, cut at any byte: what a walk over the first n bytes answers (paper 01, the last paragraph of "Reading a take").
 --     kept n us       the units that are whole within n bytes
 --     broken n us     what the cut leaves of the unit that it falls in, behind its start code: nothing where it leaves no whole start code
 --     cut             the answers: the words of the units kept; one more about what is left of a broken one, less its trailing zeros; then End
@@ -15,8 +15,9 @@ use lib.Dec.{leb}
 use lib.ListN.{length, take, replicate, length-append}
 use lib.Seq.{take-nil, take-append-add, take-append-le, take-length, drop-length}
 use borrow.Author.Tests.{leb-true, leb-false}
-use Rattle.nal_unit.specs.Walk.{startCode, code, next, blank, trim, Calm, calm-blank, calm-start, clear-take, meet-nil, meet-blank, meet-start}
-use Rattle.nal_unit.specs.Calls.{at-end, Verdict, Say, ended, said, at, ans, answers, turn-unit, align, answers-ans}
+use Rattle.nal_unit.specs.StartCode.{startCode, code, next, clear-take}
+use Rattle.nal_unit.specs.Walk.{blank, trim, Calm, calm-blank, calm-start, meet-nil, meet-blank, meet-start}
+use Rattle.nal_unit.specs.Calls.{Verdict, Say, ended, said, at, ans, answers, turn-unit, answers-ans, align, at-end}
 use Rattle.nal_unit.specs.Frame.{joined, placeBy, heldBy, says, Goes, frame}
 
 unfoldable pub kept : ℕ → List (List ℕ) → List (List ℕ)
@@ -57,6 +58,8 @@ pub data Cut (n : ℕ) (us keep : List (List ℕ)) (left : Option (List ℕ)) : 
   within : (v : List ℕ) (ws : List (List ℕ)) (r : ℕ) → us ≡ keep ++ (v ∷ ws) → n ≡ length (joined keep []) + r → r < 4 + length v
       → left ≡ cond (leb r 3) none (some (take (r - 4) v)) → Cut n us keep left
 
+-- For every n, exactly one of these: every unit is kept and nothing is broken; or the units kept are the first ones, the cut falls into the frame of the
+-- next, and what it leaves of that one is told by the bytes of the frame before the cut.
 pub cut-exact : (n : ℕ) (us : List (List ℕ)) → Cut n us (kept n us) (broken n us)
 unfolding joined kept broken
 cut-exact n [] = all refl refl (omega arith)
@@ -68,7 +71,9 @@ cut-exact n (u ∷ us) = by (leb (4 + length u) n) refl (cut-exact (n - (4 + len
     by : (b : Bool) → leb (4 + length u) n ≡ b → Cut r us (kept r us) (broken r us)
         → Cut n (u ∷ us) (cond b (u ∷ kept r us) []) (cond b (broken r us) (cond (leb n 3) none (some (take (n - 4) u))))
     by true e (all k b l) = all (ap (λ (l : List (List ℕ)). u ∷ l) k) b (omega (arith, length-append u (joined us []), leb-true (4 + length u) n e))
-    by true e (within v ws q k m l b) = within v ws q (ap (λ (l : List (List ℕ)). u ∷ l) k) (omega (arith, length-append u (joined (kept r us) []), leb-true (4 + length u) n e)) l b
+    by true e (within v ws q k m l b) =
+        let d : n ≡ length (0 ∷ startCode (u ++ joined (kept r us) [])) + q = omega (arith, length-append u (joined (kept r us) []), leb-true (4 + length u) n e) in
+        within v ws q (ap (λ (l : List (List ℕ)). u ∷ l) k) d l b
     by false e c = within u us n refl (sym (zero-add n)) (leb-false (4 + length u) n e) refl
 
 -- what the rest is, where the units are whole
@@ -76,6 +81,7 @@ data Rest (s : List ℕ) (left : Option (List ℕ)) : Type 0 where
   zeros : blank s ≡ true → left ≡ none → Rest s left
   start : (c : List ℕ) → s ≡ 0 ∷ startCode c → left ≡ some c → next c ≡ length c → Rest s left
 
+-- up to three bytes of a frame are zeros
 few : (n : ℕ) (u : List ℕ) → n ≤ 3 → blank (take n (0 ∷ startCode u)) ≡ true
 unfolding blank
 few zero u h = refl
@@ -89,6 +95,7 @@ calm-rest s left (zeros e f) = calm-blank s e
 calm-rest s left (start c e f l) = rw e (calm-start c)
 
 module _ {H A : Type 0} (judge : H → List ℕ → Verdict H A) where
+  -- it is zeros only, or a start code and what is broken
   resting : (n : ℕ) (h : H) (us : List (List ℕ)) → Goes judge h us → Rest (rest n us) (broken n us)
   unfolding rest broken blank
   resting n h [] g = zeros refl refl
@@ -130,7 +137,8 @@ module _ {H A : Type 0} (judge : H → List ℕ → Verdict H A) where
       → ans judge (suc k) h p (startCode c) ≡ said (p + 3) (judge h (trim c) .word) ∷ replicate k ended
   unfolding ans at
   at-broken k h p c e m =
-      rw (turn-unit judge h (startCode c) 3 (trim (take (next c) c)) (suc (suc (suc (next c)))) (meet-start c), e, take-length c, m, drop-length c, at-end judge k (judge h (trim c) .held) (p + suc (suc (suc (length c)))) [] meet-nil) refl
+      let t = turn-unit judge h (startCode c) 3 (trim (take (next c) c)) (suc (suc (suc (next c)))) (meet-start c) in
+      rw (t, e, take-length c, m, drop-length c, at-end judge k (judge h (trim c) .held) (p + suc (suc (suc (length c)))) [] meet-nil) refl
 
   at-rest : (k : ℕ) (h : H) (p : ℕ) (s : List ℕ) (left : Option (List ℕ)) → Rest s left → Moves h left
       → ans judge (length (tell h p left) + k) h p s ≡ tell h p left ++ replicate k ended

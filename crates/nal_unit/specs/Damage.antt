@@ -1,33 +1,36 @@
 -- Damage: a stretch of the bytes is replaced by any bytes, more or fewer. Whatever they are, a walk that stands at a start code before them arrives at
 -- each start code that stands wholly behind them, since two start codes never overlap; from there on it answers what it would have.
---     Arrives         some calls lead from one place to another, and to something held in P
---     damage          the walk over a ++ (m ++ b) arrives, for every m
---     onward          from there on, the answers for one m are those for another, with their offsets moved
---     damage-first    the walk from the first byte, over whole units and one start code before the stretch
+--     Arrives P bytes h p q     some calls lead from the place p, with h held, to the place q with something held in P
+--     damage                    from a start code in a, the walk over a ++ (m ++ b) arrives at each start code in b, for every m
+--     damage-first              so does the walk from the first byte, if a is whole units, a start code, and anything
+--     before                    the units before that start code are answered as always
+--     onward                    from there on, the answers with one stretch are those with another, with their offsets moved
+--     damage-reads              the whole reading
 -- Assumes nothing.
 use mathlib.Core.Path.{_≡_, refl, sym, ap, _∙_}
-use mathlib.Core.List.{List, [], _∷_, _++_, map, append-assoc}
+use mathlib.Core.List.{List, [], _∷_, _++_, map, append-nil, append-assoc}
 use mathlib.Core.Bool.{true, false}
 use mathlib.Core.Logic.{_⊎_, inl, inr}
 use Prim.Native.Nat.{ℕ, zero, suc, _+_, _-_, _≤_, _<_}
-use native.Mathlib.Nat.{add-assoc}
+use native.Mathlib.Nat.{add-zero, add-assoc}
 use native.Mathlib.Omega.{arith}
 use lib.ListN.{length, take, drop, length-append, length-drop, take-append-drop}
 use lib.Seq.{length-take-le, drop-append-le, drop-append-add, drop-drop}
-use Rattle.nal_unit.specs.Walk.{startCode, code, next, blank, trim, code-is, code-start, code-fits, next-code, next-start, next-there, next-most, apart, Calm, calm-code, meet-unit, Whole, whole-next, whole-unit}
-use Rattle.nal_unit.specs.Calls.{Steady, Full, steady, Verdict, Say, ended, astray, said, at, State, answers, after, aft, turn-unit, after-aft, answers-add, suffix}
-use Rattle.nal_unit.specs.Frame.{joined, joined-more, heldBy, Goes}
+use Rattle.nal_unit.specs.StartCode.{startCode, code, next, code-is, code-start, code-fits, next-code, next-start, next-there, next-most, apart}
+use Rattle.nal_unit.specs.Walk.{blank, trim, Calm, calm-code, calm-start, meet-unit, Whole, whole-next, whole-unit}
+use Rattle.nal_unit.specs.Calls.{Verdict, Say, ended, astray, said, at, State, answers, after, ans, aft, turn-unit, answers-ans, after-aft, answers-add, suffix, Steady, Full, steady}
+use Rattle.nal_unit.specs.Frame.{joined, joined-more, heldBy, says, Goes, frame}
 
 -- an answer behind a stretch of m bytes, where the stretch has m′ bytes instead
 unfoldable pub moved : {A : Type 0} → ℕ → ℕ → Say A → Say A
 moved m m′ ended = ended
-moved m m′ (astray o) = astray (o + m′ - m)
+moved m m′ (astray o n) = astray (o + m′ - m) n
 moved m m′ (said o w) = said (o + m′ - m) w
 
 moved-at : {A : Type 0} (a m m′ : ℕ) (x : Say A) → moved m m′ (at (a + m) x) ≡ at (a + m′) x
 unfolding moved at
 moved-at a m m′ ended = refl
-moved-at a m m′ (astray o) = ap astray (omega arith)
+moved-at a m m′ (astray o n) = ap (λ (k : ℕ). astray k n) (omega arith)
 moved-at a m m′ (said o w) = ap (λ (k : ℕ). said k w) (omega arith)
 
 map-moved : {A : Type 0} (a m m′ : ℕ) (l : List (Say A)) → map (moved m m′) (map (at (a + m)) l) ≡ map (at (a + m′)) l
@@ -44,6 +47,7 @@ unfolding joined lead
 joined-lead [] t = refl
 joined-lead (u ∷ us) t = rw (joined-lead us t) refl
 
+-- it begins with a start code
 record Lead (s : List ℕ) : Type 0 where
   stands : code s ≡ true
   near : next (0 ∷ s) ≡ 1
@@ -56,8 +60,15 @@ leads (u ∷ us) t = record { stands = refl; near = refl; calm = refl }
 
 -- the bytes up to a start code in b, and that start code
 seam : (x m b : List ℕ) (k : ℕ) → code (drop k b) ≡ true → x ++ (m ++ b) ≡ (x ++ (m ++ take k b)) ++ startCode (drop 3 (drop k b))
-seam x m b k e = rw (append-assoc x (m ++ take k b) (startCode (drop 3 (drop k b))), append-assoc m (take k b) (startCode (drop 3 (drop k b))), ← code-is (drop k b) e, take-append-drop k b) refl
+seam x m b k e =
+    let c = startCode (drop 3 (drop k b)) in
+    rw (append-assoc x (m ++ take k b) c, append-assoc m (take k b) c, ← code-is (drop k b) e, take-append-drop k b) refl
 
+-- how many they are
+seam-length : (x m b : List ℕ) (k : ℕ) → code (drop k b) ≡ true → length (x ++ (m ++ take k b)) ≡ length x + (length m + k)
+seam-length x m b k e = rw (length-append x (m ++ take k b), length-append m (take k b), length-take-le k b (omega (arith, code-fits b k e))) refl
+
+-- and goes on as t does
 lead-append : (us : List (List ℕ)) (t r : List ℕ) → lead us (t ++ r) ≡ lead us t ++ r
 unfolding lead
 lead-append [] t r = refl
@@ -75,16 +86,21 @@ module _ {H A : Type 0} (judge : H → List ℕ → Verdict H A) where
     holds : P (aft judge calls h p s .held)
     there : aft judge calls h p s .place ≡ q
 
+  -- by place, and by what is left
   arrives : {P : H → Type 0} (bytes : List ℕ) {h : H} {p q : ℕ} → Gets P (drop p bytes) h p q → Arrives P bytes h p q
-  arrives bytes {h} {p} {q} g = record { calls = g .calls; holds = rw (after-aft judge bytes (g .calls) h p) (g .holds); there = rw (after-aft judge bytes (g .calls) h p) (g .there) }
+  arrives bytes {h} {p} {q} g =
+      let e = after-aft judge bytes (g .calls) h p in
+      record { calls = g .calls; holds = rw e (g .holds); there = rw e (g .there) }
 
   -- the call at a start code, or at zeros before it, leads to the next one or the end
   aft-call : (n : ℕ) (h : H) (p : ℕ) (s r : List ℕ) → Calm s → drop (next s) s ≡ startCode r → judge h (trim (take (next r) r)) .stay ≡ false
       → aft judge (suc n) h p s ≡ aft judge n (judge h (trim (take (next r) r)) .held) (p + (next s + suc (suc (suc (next r))))) (drop (next r) r)
   unfolding aft
   aft-call n h p s r c e m =
-      rw (turn-unit judge h s (next s + 3) (trim (take (next r) r)) (next s + suc (suc (suc (next r)))) (meet-unit s r c e), m, ← drop-drop (suc (suc (suc (next r)))) (next s) s, e) refl
+      let t = turn-unit judge h s (next s + 3) (trim (take (next r) r)) (next s + suc (suc (suc (next r)))) (meet-unit s r c e) in
+      rw (t, m, ← drop-drop (suc (suc (suc (next r)))) (next s) s, e) refl
 
+  -- so that it is enough to go on from there
   past : {P : H → Type 0} → Steady judge P → (h : H) (p : ℕ) (s r : List ℕ) {q : ℕ} (o : ℕ) → Calm s → drop (next s) s ≡ startCode r → P h
       → p + (next s + suc (suc (suc (next r)))) ≡ o → ((i : H) → P i → Gets P (drop (next r) r) i o q) → Gets P s h p q
   past st h p s r o c e i f k =
@@ -98,7 +114,8 @@ module _ {H A : Type 0} (judge : H → List ℕ → Verdict H A) where
       → Gets P (drop (next (y ++ startCode t)) (y ++ startCode t)) h (p + next (y ++ startCode t)) (p + length y)
   unfolding aft
   reach {P} st zero h p y t l i = record { calls = 0; holds = i; there = omega (arith, next-most y t) }
-  reach {P} st (suc f) h p y t l i = rw c (by (apart w t (rw c at (next-there (y ++ startCode t) there))) (λ j q k. reach st f j q x t (omega (arith, length-drop n y, length-drop 3 w)) k))
+  reach {P} st (suc f) h p y t l i =
+      rw c (by (apart w t (rw c at (next-there (y ++ startCode t) there))) (λ j q k. reach st f j q x t (omega (arith, length-drop n y, length-drop 3 w)) k))
     where
       n : ℕ
       n = next (y ++ startCode t)
@@ -119,7 +136,9 @@ module _ {H A : Type 0} (judge : H → List ℕ → Verdict H A) where
           → ((j : H) (q : ℕ) → P j → Gets P (drop (next (x ++ startCode t)) (x ++ startCode t)) j (q + next (x ++ startCode t)) (q + length x))
           → Gets P (w ++ startCode t) h (p + n) (p + length y)
       by (inl z) ih = record { calls = 0; holds = i; there = omega (arith, ap length z, length-drop n y, next-most y t) }
-      by (inr z) ih = rw (z, e) (past st h (p + n) (startCode r) r (p + n + 3 + next r) (calm-code (startCode r) (code-start r)) (rw (next-start r) refl) i (omega (arith, next-start r)) (λ j k. ih j (p + n + 3) k))
+      by (inr z) ih =
+          let o = p + n + 3 in
+          rw (z, e) (past st h (p + n) (startCode r) r (o + next r) (calm-code (startCode r) (code-start r)) (rw (next-start r) refl) i (omega (arith, next-start r)) (λ j k. ih j o k))
         where
           r : List ℕ
           r = x ++ startCode t
@@ -169,11 +188,12 @@ module _ {H A : Type 0} (judge : H → List ℕ → Verdict H A) where
       let w = drop 3 (drop p a) in
       let y = w ++ (m ++ take k b) in
       let t = drop 3 (drop k b) in
-      let s : drop p (a ++ (m ++ b)) ≡ startCode (y ++ startCode t) =
+      let c = startCode (y ++ startCode t) in
+      let s : drop p (a ++ (m ++ b)) ≡ c =
       rw (drop-append-le p a (m ++ b) (omega (arith, code-fits a p e)), code-is (drop p a) e) (ap (λ (l : List ℕ). startCode l) (seam w m b k f)) in
-      let q : length a + (length m + k) ≡ p + (next (startCode (y ++ startCode t)) + length (startCode y)) =
-      omega (arith, code-fits a p e, code-fits b k f, next-start (y ++ startCode t), length-append w (m ++ take k b), length-append m (take k b), length-take-le k b (omega (arith, code-fits b k f)), length-drop 3 (drop p a), length-drop p a) in
-      arrives (a ++ (m ++ b)) (rw (s, q) (along st [] h p (startCode (y ++ startCode t)) y t (calm-code (startCode (y ++ startCode t)) (code-start (y ++ startCode t))) (rw (next-start (y ++ startCode t)) refl) tt i))
+      let q : length a + (length m + k) ≡ p + (next c + length (startCode y)) =
+      omega (arith, code-fits a p e, next-start (y ++ startCode t), seam-length w m b k f, length-drop 3 (drop p a), length-drop p a) in
+      arrives (a ++ (m ++ b)) (rw (s, q) (along st [] h p c y t (calm-code c (code-start (y ++ startCode t))) (rw (next-start (y ++ startCode t)) refl) tt i))
 
   -- From the first byte: a is whole units, behind which what is held is in P, then a start code, then anything.
   pub damage-first : {P : H → Type 0} → Steady judge P → (us : List (List ℕ)) (a x m b : List ℕ) (h : H) (k : ℕ) → a ≡ joined us (0 ∷ startCode x)
@@ -185,10 +205,20 @@ module _ {H A : Type 0} (judge : H → List ℕ → Verdict H A) where
       let d = leads us (y ++ startCode t) in
       let s : a ++ (m ++ b) ≡ 0 ∷ l = rw (v, joined-more us (0 ∷ startCode x) (m ++ b), joined-lead us (x ++ (m ++ b)), seam x m b k f) refl in
       let q : length a + (length m + k) ≡ 0 + (next (0 ∷ l) + length (lead us y)) =
-      omega (arith, d .near, ap length (v ∙ joined-lead us x), ap length (lead-append us x (m ++ take k b)), length-append (lead us x) (m ++ take k b), length-append m (take k b), length-take-le k b (omega (arith, code-fits b k f))) in
+      omega (arith, d .near, ap length (v ∙ joined-lead us x), ap length (lead-append us x (m ++ take k b)), seam-length (lead us x) m b k f) in
       rw (q, s) (arrives (0 ∷ l) (along st us h 0 (0 ∷ l) y t (d .calm) (rw (d .near) refl) g i))
 
-  later : (a m b : List ℕ) (n : ℕ) (h : H) (k : ℕ) → answers judge (a ++ (m ++ b)) n h (length a + (length m + k)) ≡ map (at (length a + length m)) (answers judge b n h k)
+  -- The units before that start code are answered as always, whatever follows.
+  pub before : (us : List (List ℕ)) (a x r : List ℕ) (h : H) → a ≡ joined us (0 ∷ startCode x) → Goes judge h us
+      → answers judge (a ++ r) (length us) h 0 ≡ says judge h 0 us
+  unfolding ans
+  before us a x r h v g =
+      let f = frame judge 0 h 0 us (0 ∷ startCode (x ++ r)) g (calm-start (x ++ r)) in
+      rw (v, joined-more us (0 ∷ startCode x) r, answers-ans judge (joined us (0 ∷ startCode (x ++ r))) (length us) h 0) (rw (add-zero (length us), append-nil) at f)
+
+  -- what is answered behind a stretch does not turn on it
+  later : (a m b : List ℕ) (n : ℕ) (h : H) (k : ℕ)
+      → answers judge (a ++ (m ++ b)) n h (length a + (length m + k)) ≡ map (at (length a + length m)) (answers judge b n h k)
   later a m b n h k = rw (← append-assoc a m b, ← add-assoc (length a) (length m) k, ← length-append a m) (suffix judge (a ++ m) b n h k)
 
   -- From there on: a stretch of m′ in place of m moves the offsets by the difference in length, and changes nothing else.
@@ -196,13 +226,21 @@ module _ {H A : Type 0} (judge : H → List ℕ → Verdict H A) where
       → answers judge (a ++ (m′ ++ b)) n h (length a + (length m′ + k)) ≡ map (moved (length m) (length m′)) (answers judge (a ++ (m ++ b)) n h (length a + (length m + k)))
   onward a m m′ b n h k = rw (later a m′ b n h k, later a m b n h k) (sym (map-moved (length a) (length m) (length m′) (answers judge b n h k)))
 
-  -- Where nothing changes what is held, arriving is one equation, and the calls before it and those after it make one reading.
+  -- Where nothing changes what is held, arriving is one equation.
   pub arrived : {bytes : List ℕ} {h g : H} {p q : ℕ} (r : Arrives (λ i. i ≡ g) bytes h p q) → after judge bytes (r .calls) h p ≡ record { held = g; place = q }
   arrived {bytes} {h} {g} {p} {q} r = by (after judge bytes (r .calls) h p) (r .holds) (r .there)
     where
       by : (s : State H) → s .held ≡ g → s .place ≡ q → s ≡ record { held = g; place = q }
       by s e f = rw (← e, ← f) refl
 
+  -- From any start code in a, with h held that no unit changes, for every m: some calls lead to each start code in b, with h held.
+  pub damage-full : (a m b : List ℕ) (h : H) (p k : ℕ) → Full judge h → code (drop p a) ≡ true → code (drop k b) ≡ true
+      → (n : ℕ) × (after judge (a ++ (m ++ b)) n h p ≡ record { held = h; place = length a + (length m + k) })
+  damage-full a m b h p k f e d =
+      let r = damage (steady judge f) a m b h p k refl e d in
+      (r .calls, arrived r)
+
+  -- The calls before arriving and those after it make one reading.
   pub resumes : {bytes : List ℕ} {h g : H} {p q : ℕ} (r : Arrives (λ i. i ≡ g) bytes h p q) (j : ℕ)
       → answers judge bytes (r .calls + j) h p ≡ answers judge bytes (r .calls) h p ++ answers judge bytes j g q
   resumes {bytes} {h} {g} {p} {q} r j =

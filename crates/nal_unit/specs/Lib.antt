@@ -1,6 +1,7 @@
 pub mod Escape
 pub mod Bytes
 pub mod Unescape
+pub mod StartCode
 pub mod Walk
 pub mod Scan
 pub mod Calls

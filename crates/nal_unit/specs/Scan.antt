@@ -1,11 +1,12 @@
 -- Start codes, zeros and faults by the places of a slice, as a loop moves: one byte on, or one byte back. Places are counted as code counts, i + 1.
---     code-at, code-short      a start code at the place i, by three bytes; none where fewer are left
+--     code-at, code-short                a start code at the place i, by three bytes; none where fewer are left
 --     next-at, next-step, next-short     the next start code from the place i on: here; one byte on; the end, where fewer than three bytes are left
---     blank-step               whether the bytes from a place on are zero
+--     blank-step                         whether the first bytes are zero, one more
 --     trim-none, trim-zero, trim-last    trailing zeros, taken off one by one from the end
 --     fault-at, fault-short, fault-step  a fault at the place i, by four bytes; none where fewer than three are left; one byte on
+--     meet-at                            the unit that is met from the place p on, by the place o where it begins
 -- Assumes nothing.
-use mathlib.Core.Path.{_≡_, refl, sym, ap}
+use mathlib.Core.Path.{_≡_, refl, sym, ap, _∙_}
 use mathlib.Core.List.{List, [], _∷_, _++_, append-nil}
 use mathlib.Core.Bool.{true, false, _&&_, _||_, and-true, and-assoc}
 use Prim.Native.Nat.{ℕ, _+_, _≤_, _<_}
@@ -13,12 +14,13 @@ use native.Mathlib.Numerals.{add-one}
 use native.Mathlib.Omega.{arith}
 use lib.Dec.{leb, eqb}
 use lib.ListN.{length, take, drop, getD, length-drop, drop-of-length-le, List·getD-eq-default}
-use lib.Seq.{take-suc}
+use lib.Seq.{take-suc, drop-drop}
 use Rattle.lists.specs.Part.{drop-step}
 use Rattle.lists.specs.Test.{either}
 use Rattle.nal_unit.specs.Bytes.{lastOf, last-append, drop-three}
 use Rattle.nal_unit.specs.Unescape.{over3, faultHere, fault, fault-cons}
-use Rattle.nal_unit.specs.Walk.{code, next, blank, lay, trim, next-code, next-past, trim-join}
+use Rattle.nal_unit.specs.StartCode.{startCode, code, next, code-is, next-code, next-past, next-there}
+use Rattle.nal_unit.specs.Walk.{blank, lay, trim, unit, meet, trim-join, Calm, meet-unit}
 
 pub code-at : (s : List ℕ) (i : ℕ) → i + 3 ≤ length s → code (drop i s) ≡ eqb (getD s i 0) 0 && (eqb (getD s (i + 1) 0) 0 && eqb (getD s (i + 2) 0) 1)
 unfolding code
@@ -96,3 +98,11 @@ fault-short s i h = short (drop i s) (omega (arith, length-drop i s))
 
 pub fault-step : (s : List ℕ) (i : ℕ) → i < length s → fault (drop i s) ≡ faultHere (drop i s) || fault (drop (i + 1) s)
 fault-step s i h = rw (drop-step s i h) (fault-cons (getD s i 0) (drop (i + 1) s))
+
+pub meet-at : (s : List ℕ) (p o : ℕ) → Calm (drop p s) → p + next (drop p s) < length s → p + next (drop p s) + 3 ≡ o
+    → meet (drop p s) ≡ unit (next (drop p s) + 3) (trim (take (next (drop o s)) (drop o s))) (next (drop p s) + 3 + next (drop o s))
+meet-at s p o c h e =
+    let n = next (drop p s) in
+    let d : drop n (drop p s) ≡ startCode (drop o s) =
+    code-is (drop n (drop p s)) (next-there (drop p s) (omega (arith, length-drop p s))) ∙ ap (λ (l : List ℕ). startCode l) (rw (drop-drop n p s, drop-drop 3 (p + n) s, e) refl) in
+    meet-unit (drop p s) (drop o s) c d ∙ ap (λ (k : ℕ). unit (n + 3) (trim (take (next (drop o s)) (drop o s))) k) (omega arith)

@@ -243,6 +243,6 @@ fault-take (suc m) (x ∷ t) e =
     let n = fault-none x t e in
     fault-past x (take m t) (here-take (suc m) (x ∷ t) (n .0)) ∙ fault-take m t (n .1)
 
--- nor has any start of an escape one
+-- so no start of an escape has one
 pub fault-esc-take : (m : ℕ) (p : List ℕ) → fault (take m (esc p)) ≡ false
 fault-esc-take m p = fault-take m (esc p) (fault-esc p)

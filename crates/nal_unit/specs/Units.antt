@@ -15,7 +15,8 @@ use borrow.Author.Tests.{eqb-true}
 use Rattle.nal_unit.specs.Bytes.{lastOf, last-cons, last-above}
 use Rattle.nal_unit.specs.Escape.{esc}
 use Rattle.nal_unit.specs.Unescape.{un, faultHere, fault, fault-none, fault-first, fault-esc, fault-esc-take, last-esc, un-take}
-use Rattle.nal_unit.specs.Walk.{code, next, blank, trim, next-nil, clear-cons, trimmed, Trimmed, Whole}
+use Rattle.nal_unit.specs.StartCode.{code, next, next-nil, clear-cons}
+use Rattle.nal_unit.specs.Walk.{blank, trim, trimmed, Trimmed, Whole}
 
 -- a start code is a fault
 code-fault : (s : List ℕ) → faultHere s ≡ false → code s ≡ false
