@@ -13,10 +13,12 @@ unfoldable pub lastOf : ℕ → List ℕ → ℕ
 lastOf d [] = d
 lastOf d (x ∷ xs) = lastOf x xs
 
+-- of a list with a first element
 pub last-cons : (d x : ℕ) (xs : List ℕ) → lastOf d (x ∷ xs) ≡ lastOf x xs
 unfolding lastOf
 last-cons d x xs = refl
 
+-- of two lists
 pub last-append : (d : ℕ) (xs ys : List ℕ) → lastOf d (xs ++ ys) ≡ lastOf (lastOf d xs) ys
 unfolding lastOf
 last-append d [] ys = refl
@@ -28,6 +30,7 @@ unfolding lastOf
 last-above c d [] h l = h
 last-above c d (x ∷ xs) h l = l
 
+-- what stands from i on, where there are three or more
 pub drop-three : (s : List ℕ) (i : ℕ) → i + 3 ≤ length s → drop i s ≡ getD s i 0 ∷ getD s (i + 1) 0 ∷ getD s (i + 2) 0 ∷ drop (i + 3) s
 drop-three s i h =
     let e : i + 1 + 1 ≡ i + 2 = omega arith in

@@ -145,6 +145,7 @@ module _ {H A : Type 0} (judge : H → List ℕ → Verdict H A) where
       let t = turn h s in
       rw (at-at q p (t .say), add-assoc q p (t .moved), shift n (t .held) q (p + t .moved) (drop (t .moved) s)) refl
 
+  -- the same by place: the walk over a ++ b from a place in b is the walk over b
   pub suffix : (a b : List ℕ) (n : ℕ) (h : H) (p : ℕ) → answers (a ++ b) n h (length a + p) ≡ map (at (length a)) (answers b n h p)
   suffix a b n h p =
       rw (answers-ans (a ++ b) n h (length a + p), drop-append-add a b p, answers-ans b n h p) (shift n h (length a) p (drop p b))
@@ -208,6 +209,7 @@ module _ {H A : Type 0} (judge : H → List ℕ → Verdict H A) where
     pub most : calls ≤ length s
     pub reads : (k : ℕ) → ans (calls + k) h p s ≡ ans calls h p s ++ replicate k ended
 
+  -- every reading that keeps no place ends so
   pub ends : {P : H → Type 0} → Steady P → (h : H) (p : ℕ) (s : List ℕ) → P h → Ends h p s
   unfolding ans
   ends {P} st h p s i = go (length s) h p s (omega arith) i

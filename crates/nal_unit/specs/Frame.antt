@@ -38,6 +38,7 @@ unfolding joined
 joined-tail [] t = refl
 joined-tail (u ∷ us) t = rw (joined-tail us t, append-assoc u (joined us []) t) refl
 
+-- more bytes behind
 pub joined-more : (us : List (List ℕ)) (t r : List ℕ) → joined us t ++ r ≡ joined us (t ++ r)
 joined-more us t r = rw (joined-tail us t, joined-tail us (t ++ r)) (append-assoc (joined us []) t r)
 
@@ -47,6 +48,7 @@ unfolding placeBy joined
 place-joined p [] = sym (add-zero p)
 place-joined p (u ∷ us) = place-joined (p + 4 + length u) us ∙ omega (arith, length-append u (joined us []))
 
+-- behind units in a row and more units
 pub place-append : (p : ℕ) (us vs : List (List ℕ)) → placeBy p (us ++ vs) ≡ placeBy (placeBy p us) vs
 unfolding placeBy
 place-append p [] vs = refl

@@ -31,10 +31,12 @@ unfoldable pub next : List ℕ → ℕ
 next [] = 0
 next (x ∷ t) = cond (code (x ∷ t)) 0 (suc (next t))
 
+-- one stands where one was put
 pub code-start : (t : List ℕ) → code (startCode t) ≡ true
 unfolding code
 code-start t = refl
 
+-- where one stands, the first three bytes are 00 00 01
 pub code-is : (s : List ℕ) → code s ≡ true → s ≡ startCode (drop 3 s)
 unfolding code
 code-is [] e = absurd (true≢false (sym e))
@@ -49,6 +51,7 @@ code-is (a ∷ b ∷ c ∷ t) e =
 pub code-fits : (s : List ℕ) (i : ℕ) → code (drop i s) ≡ true → i + 3 ≤ length s
 code-fits s i e = omega (arith, ap length (code-is (drop i s) e), length-drop i s)
 
+-- at the end
 pub next-nil : next [] ≡ 0
 unfolding next
 next-nil = refl
@@ -67,6 +70,7 @@ pub next-past : (x : ℕ) (t : List ℕ) → code (x ∷ t) ≡ false → next (
 unfolding next
 next-past x t e = rw e refl
 
+-- it is not beyond the end
 pub next-le : (s : List ℕ) → next s ≤ length s
 unfolding next
 next-le [] = omega arith
@@ -105,6 +109,7 @@ clear-tail x t h = by (code (x ∷ t)) refl
     by true e = absurd (omega (arith, next-code (x ∷ t) e))
     by false e = (e, omega (arith, next-past x t e))
 
+-- and the other way round
 pub clear-cons : (x : ℕ) (t : List ℕ) → code (x ∷ t) ≡ false → next t ≡ length t → next (x ∷ t) ≡ length (x ∷ t)
 clear-cons x t e h = next-past x t e ∙ ap suc h
 
@@ -120,6 +125,7 @@ unfolding code
 code-second a x [] h = refl
 code-second a x (c ∷ t) h = rw (ne-eqb x 0 (λ e. omega arith), and-false) refl
 
+-- no start code is made at a seam behind a byte above 0
 pub next-join : (c t : List ℕ) → 0 < lastOf 1 c → next c ≡ length c → next (c ++ t) ≡ length c + next t
 unfolding lastOf code
 next-join [] t l h = sym (zero-add (next t))

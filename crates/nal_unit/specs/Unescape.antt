@@ -27,6 +27,7 @@ inserted z x = leb 2 z && eqb x 3
 unfoldable pub counted : ℕ → ℕ → ℕ
 counted z x = cond (eqb x 0) (z + 1) 0
 
+-- an inserted byte is left out and begins the count anew
 unfoldable pub unFrom : ℕ → List ℕ → List ℕ
 unFrom z [] = []
 unFrom z (x ∷ xs) = cond (inserted z x) (unFrom 0 xs) (x ∷ unFrom (counted z x) xs)
@@ -34,6 +35,7 @@ unFrom z (x ∷ xs) = cond (inserted z x) (unFrom 0 xs) (x ∷ unFrom (counted z
 abbrev pub un : List ℕ → List ℕ
 un xs = unFrom 0 xs
 
+-- the definition, as laws
 pub un-nil : (z : ℕ) → unFrom z [] ≡ []
 unfolding unFrom
 un-nil z = refl
@@ -138,6 +140,7 @@ unfoldable pub fault : List ℕ → Bool
 fault [] = false
 fault (x ∷ t) = faultHere (x ∷ t) || fault t
 
+-- the definition, as laws
 pub fault-nil : fault [] ≡ false
 unfolding fault
 fault-nil = refl

@@ -62,6 +62,7 @@ code-blank (x ∷ y ∷ z ∷ s) e =
     let r = and-eq-true-iff (eqb z 0) (blank s) .0 (q .1) in
     rw (eqb-true z 0 (r .0)) (simp and-false)
 
+-- so that the next one is at their end
 pub next-blank : (s : List ℕ) → blank s ≡ true → next s ≡ length s
 unfolding blank
 next-blank [] e = next-nil
@@ -92,6 +93,7 @@ pub record Trimmed (s : List ℕ) : Type 0 where
   pub gone : blank (drop count s) ≡ true
   pub ends : 0 < lastOf 1 (trim s)
 
+-- so it is of every list
 pub trimmed : (s : List ℕ) → Trimmed s
 unfolding trim lay lastOf blank
 trimmed [] = record { count = 0; most = omega arith; left = refl; gone = refl; ends = omega arith }
@@ -129,6 +131,7 @@ blank-take (suc n) (x ∷ s) e =
     let p = and-eq-true-iff (eqb x 0) (blank s) .0 e in
     rw (p .0) (blank-take n s (p .1))
 
+-- nothing
 pub calm-nil : Calm []
 unfolding next blank
 calm-nil = refl
@@ -147,6 +150,7 @@ pub calm-start : (t : List ℕ) → Calm (0 ∷ startCode t)
 unfolding next code blank
 calm-start t = refl
 
+-- at the end
 pub meet-nil : meet [] ≡ end
 unfolding meet behind next blank
 meet-nil = refl
@@ -174,6 +178,7 @@ pub meet-end : (s : List ℕ) → Calm s → length s ≤ next s → meet s ≡ 
 unfolding meet behind
 meet-end s c h = rw (c, drop-of-length-le s h) refl
 
+-- zeros only: the end
 pub meet-blank : (s : List ℕ) → blank s ≡ true → meet s ≡ end
 meet-blank s e = meet-end s (calm-blank s e) (omega (arith, next-blank s e))
 
@@ -186,6 +191,7 @@ pub data Seen (s : List ℕ) : Type 0 where
   over : meet s ≡ end → meet (drop (next s) s) ≡ end → Seen s
   holds : (u : List ℕ) (m : ℕ) → meet s ≡ unit (next s + 3) u (next s + m) → meet (drop (next s) s) ≡ unit 3 u m → Seen s
 
+-- calm bytes are one or the other
 pub seen : (s : List ℕ) → Calm s → Seen s
 seen s c = either (length s) (next s) (λ h. over (meet-end s c h) (rw (drop-of-length-le s h) meet-nil)) some
   where
