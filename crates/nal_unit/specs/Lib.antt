@@ -1,1 +1,12 @@
 pub mod Escape
+pub mod Bytes
+pub mod Unescape
+pub mod StartCode
+pub mod Walk
+pub mod Scan
+pub mod Calls
+pub mod Frame
+pub mod Cut
+pub mod Damage
+pub mod Units
+pub mod Plain
