@@ -5,7 +5,7 @@ use mathlib.Core.List.{List, _++_}
 use Prim.Native.Nat.{ℕ, _+_, _≤_}
 use native.Mathlib.Omega.{arith}
 use lib.ListN.{length, drop, length-drop}
-use lib.Seq.{drop-append-le, take-append-le, drop-append-add, drop-drop}
+use lib.Seq.{drop-append-le, take-append-le, drop-append-add, drop-drop, take-all}
 use Rattle.lists.specs.Part.{part}
 
 -- a part that lies in the first of two lists
@@ -22,3 +22,8 @@ part-right xs ys a l = rw (drop-append-add xs ys a) refl
 pub part-drop : (s : List ℕ) (k a l : ℕ) → part (drop k s) a l ≡ part s (k + a) l
 unfolding part
 part-drop s k a l = rw (drop-drop a k s) refl
+
+-- the whole list as a part
+pub part-all : (s : List ℕ) (n : ℕ) → length s ≡ n → part s 0 n ≡ s
+unfolding part
+part-all s n h = take-all n s (omega arith)
