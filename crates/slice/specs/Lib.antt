@@ -2,3 +2,4 @@ pub mod Lists
 pub mod Digits
 pub mod Cat
 pub mod Layout
+pub mod Grid
