@@ -6,7 +6,7 @@ use native.Mathlib.Nat.{mod-lt, div-lt-iff-lt-mul, mul-le-mul-right}
 use native.Mathlib.Omega.{arith}
 use Rattle.lists.specs.Test.{either}
 
--- what has a number below it is not 0
+-- a factor of what has a number below it is not 0
 above : (n m j : ℕ) → j < n * m → 0 < m
 above n zero j h = absurd (omega arith)
 above n (suc m) j h = omega arith

@@ -1,4 +1,5 @@
 -- Where the samples of a plane stand in a picture's payload, and that they are the plane's.
+--     spot G i p           where the byte p of the samples of macroblock i stands
 --     place G r x          where the row r of the plane's block column x begins
 --     posOf G vb j         where the sample byte j stands, of the plane's visible part: rows of vb bytes, stored tight
 --     tightOf G X vb vh    the visible part, vh rows of vb bytes, as it is read back out of the payload X
@@ -27,8 +28,11 @@ pub record Grid : Type 0 where
   pub bw : ℕ
   pub bh : ℕ
 
+unfoldable pub spot : Grid → ℕ → ℕ → ℕ
+spot G i p = G .lead + (i * (2 + G .size) + p)
+
 unfoldable pub place : Grid → ℕ → ℕ → ℕ
-place G r x = G .lead + ((r / G .bh * G .mw + x) * (2 + G .size) + (G .off + r % G .bh * G .bw))
+place G r x = spot G (r / G .bh * G .mw + x) (G .off + r % G .bh * G .bw)
 
 unfoldable pub posOf : Grid → ℕ → ℕ → ℕ
 posOf G vb j = place G (j / vb) (j % vb / G .bw) + j % vb % G .bw
@@ -38,6 +42,11 @@ tightOf G X vb vh = tab (λ j. getD X (posOf G vb j) 0) 0 (vh * vb)
 
 unfoldable pub visible : List ℕ → ℕ → ℕ → ℕ → List ℕ
 visible s stride vb vh = cat (rowsOf s stride 0 vb) 0 vh
+
+-- the samples stand within a payload of n macroblocks
+pub spot-inside : (G : Grid) (X : List ℕ) (n i p : ℕ) → length X + 1 ≡ G .lead + n * (2 + G .size) → i < n → p ≤ G .size → spot G i p < length X
+unfolding spot
+spot-inside G X n i p e h l = omega (arith, mul-le-mul-right (2 + G .size) h)
 
 -- what is read back has its length
 pub tight-length : (G : Grid) (X : List ℕ) (vb vh : ℕ) → length (tightOf G X vb vh) ≡ vh * vb
@@ -74,7 +83,7 @@ good-join (more r a) b = more r (good-join a b)
 -- at its place in the payload stands the row r of the block column x
 pub row-back : {mw mh : ℕ} (hdr : List ℕ) (As : List Plane) (P : Plane) (Bs : List Plane) → Good mw mh (As ++ (P ∷ Bs)) → (r x : ℕ) → r < mh * P .bh → x < mw
     → part (payload hdr mw (As ++ (P ∷ Bs)) (mh * mw)) (place (gridOf hdr mw As P Bs) r x) (P .bw) ≡ P .row r x
-unfolding place
+unfolding place spot
 row-back {mw} {mh} hdr As P Bs g r x h l =
     let m : r / P .bh < mh = high-below mh (P .bh) r h in
     let y : r % P .bh < P .bh = low-below mh (P .bh) r h in

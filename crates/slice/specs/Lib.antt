@@ -3,3 +3,5 @@ pub mod Digits
 pub mod Cat
 pub mod Layout
 pub mod Grid
+pub mod Filling
+pub mod Blocks

@@ -1,11 +1,12 @@
--- Laws of lists in general: parts of a concatenation.
+-- Laws of lists in general: parts of a concatenation, elements of a list that was written over.
 -- Assumes nothing.
-use mathlib.Core.Path.{_≡_, refl}
-use mathlib.Core.List.{List, _++_}
-use Prim.Native.Nat.{ℕ, _+_, _≤_}
+use mathlib.Core.Path.{_≡_, refl, ap, _∙_}
+use mathlib.Core.List.{List, _++_, append-assoc}
+use Prim.Native.Nat.{ℕ, _+_, _-_, _≤_, _<_}
 use native.Mathlib.Omega.{arith}
-use lib.ListN.{length, drop, length-drop}
-use lib.Seq.{drop-append-le, take-append-le, drop-append-add, drop-drop, take-all}
+use lib.ListN.{length, take, drop, getD, length-append, length-drop, List·getD-append}
+use lib.Seq.{drop-append-le, take-append-le, drop-append-add, drop-drop, take-all, length-take-le, getD-take, getD-drop, getD-append-add}
+use Rattle.lists.specs.Fill.{splice}
 use Rattle.lists.specs.Part.{part}
 
 -- a part that lies in the first of two lists
@@ -27,3 +28,30 @@ part-drop s k a l = rw (drop-drop a k s) refl
 pub part-all : (s : List ℕ) (n : ℕ) → length s ≡ n → part s 0 n ≡ s
 unfolding part
 part-all s n h = take-all n s (omega arith)
+
+-- an element of what was written
+pub splice-at : (d : List ℕ) (at : ℕ) (v : List ℕ) (k : ℕ) → at ≤ length d → k < length v → getD (splice d at v) (at + k) 0 ≡ getD v k 0
+unfolding splice
+splice-at d at v k h l =
+    let t : length (take at d) ≡ at = length-take-le at d h in
+    (rw t at (getD-append-add (take at d) (v ++ drop (at + length v) d) k 0)) ∙ List·getD-append v (drop (at + length v) d) 0 k l
+
+-- an element before it
+pub splice-before : (d : List ℕ) (at : ℕ) (v : List ℕ) (j : ℕ) → at ≤ length d → j < at → getD (splice d at v) j 0 ≡ getD d j 0
+unfolding splice
+splice-before d at v j h l =
+    List·getD-append (take at d) (v ++ drop (at + length v) d) 0 j (omega (arith, length-take-le at d h)) ∙ getD-take at d j 0 l
+
+-- an element behind what took the place of a list's first n
+pub front-behind : (xs d : List ℕ) (n j : ℕ) → length xs ≡ n → n ≤ j → getD (xs ++ drop n d) j 0 ≡ getD d j 0
+front-behind xs d n j h l =
+    let e : j ≡ length xs + (j - n) = omega arith in
+    let g : n + (j - n) ≡ j = omega arith in
+    ap (λ (i : ℕ). getD (xs ++ drop n d) i 0) e ∙ (getD-append-add xs (drop n d) (j - n) 0 ∙ (getD-drop n d (j - n) 0 ∙ ap (λ (i : ℕ). getD d i 0) g))
+
+-- an element behind what was written
+pub splice-behind : (d : List ℕ) (at : ℕ) (v : List ℕ) (j : ℕ) → at ≤ length d → at + length v ≤ j → getD (splice d at v) j 0 ≡ getD d j 0
+unfolding splice
+splice-behind d at v j h l =
+    let e : length (take at d ++ v) ≡ at + length v = rw (length-append (take at d) v, length-take-le at d h) refl in
+    rw (← append-assoc (take at d) v (drop (at + length v) d)) (front-behind (take at d ++ v) d (at + length v) j e l)
