@@ -6,7 +6,7 @@
 -- A loop whose counter is k and whose end is e has `cat f k (e - k)` still to come.
 -- Assumes nothing.
 use mathlib.Core.Path.{_≡_, refl, sym, ap, _∙_}
-use mathlib.Core.List.{List, [], _∷_, _++_, append-assoc}
+use mathlib.Core.List.{List, [], _∷_, _++_, append-assoc, append-nil}
 use Prim.Native.Nat.{ℕ, zero, suc, _+_, _-_, _*_, _/_, _%_, _≤_, _<_}
 use native.Mathlib.Nat.{add-zero, zero-add, zero-mul, suc-mul, div-add-mod'}
 use native.Mathlib.Numerals.{add-one}
@@ -65,6 +65,11 @@ cat-append f i (suc m) n =
     let e : suc m + n ≡ suc (m + n) = omega arith in
     let d : i + suc m ≡ i + 1 + m = omega arith in
     rw (e, d, cat-append f (i + 1) m n) (sym (append-assoc (f i) (cat f (i + 1) m) (cat f (i + 1 + m) n)))
+
+-- the last piece stands behind the others
+pub cat-last : (f : ℕ → List ℕ) (i n : ℕ) → cat f i (n + 1) ≡ cat f i n ++ f (i + n)
+cat-last f i n =
+    cat-append f i n 1 ∙ ap (λ (t : List ℕ). cat f i n ++ t) (cat-more f (i + n) 0 ∙ (rw (cat-none f (i + n + 1)) (append-nil (f (i + n)))))
 
 pub record Even (f : ℕ → List ℕ) (m i n : ℕ) : Type 0 where
   pub each : (k : ℕ) → k < n → length (f (i + k)) ≡ m

@@ -53,9 +53,13 @@ pub tight-length : (G : Grid) (X : List ℕ) (vb vh : ℕ) → length (tightOf G
 unfolding tightOf
 tight-length G X vb vh = tab-length (λ j. getD X (posOf G vb j) 0) 0 (vh * vb)
 
--- the grid of the plane P where the planes As stand before it and Bs behind it
+-- the grid of a plane of P's width and height whose block stands behind off bytes of its macroblock
+abbrev pub gridAt : List ℕ → ℕ → ℕ → ℕ → Plane → Grid
+gridAt hdr mw size off P = record { lead = length hdr; mw = mw; size = size; off = off; bw = P .bw; bh = P .bh }
+
+-- that of the plane P where the planes As stand before it and Bs behind it
 abbrev pub gridOf : List ℕ → ℕ → List Plane → Plane → List Plane → Grid
-gridOf hdr mw As P Bs = record { lead = length hdr; mw = mw; size = mbSize (As ++ (P ∷ Bs)); off = mbSize As; bw = P .bw; bh = P .bh }
+gridOf hdr mw As P Bs = gridAt hdr mw (mbSize (As ++ (P ∷ Bs))) (mbSize As) P
 
 -- the row y of a block stands in its macroblock behind the planes before it
 mb-row : {mw mh : ℕ} (As : List Plane) (P : Plane) (Bs : List Plane) → Good mw mh As → Rows mw mh P → (my mx y : ℕ) → my < mh → mx < mw → y < P .bh

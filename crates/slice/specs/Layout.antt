@@ -155,6 +155,12 @@ pub slice-is : (hdr : List ℕ) (f : ℕ → List ℕ) (n : ℕ) → sliceOf hdr
 unfolding sliceOf
 slice-is hdr f n = refl
 
+-- the same samples make the same slice
+pub slice-same : (hdr : List ℕ) (f g : ℕ → List ℕ) (n : ℕ) → ((i : ℕ) → i < n → f i ≡ g i) → sliceOf hdr f n ≡ sliceOf hdr g n
+unfolding sliceOf macroblock
+slice-same hdr f g n h =
+    rw (cat-same (macroblock hdr f) (macroblock hdr g) 0 0 n (λ i l. ap (λ (t : List ℕ). head hdr (0 + i) ++ t) (h (0 + i) (omega arith)))) refl
+
 -- lengths
 
 -- the plane has all its rows: in mh block rows and mw block columns, each row of each block has bw bytes
