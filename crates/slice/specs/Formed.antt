@@ -1,10 +1,15 @@
 -- What a reader has to look at to know a payload: a list of the exact length whose header, heads and last byte are right is the payload of the planes
 -- that are read from it.
 --     Formed hdr size n X    X has the length of n macroblocks of `size` bytes, and header, heads and last byte are right
+--     right hdr size n X     the test of the last three
 --     planesOf hdr mw Ps X   planes of the widths and heights of Ps, whose rows are the parts of X at their places
 -- Assumes nothing.
 use mathlib.Core.Path.{_≡_, refl, sym, ap, _∙_}
 use mathlib.Core.List.{List, [], _∷_, _++_}
+use mathlib.Core.Bool.{Bool, true, _&&_, and-eq-true-iff}
+use lib.Dec.{eqb}
+use borrow.Author.Tests.{eqb-true, eq-eqb}
+use Rattle.lists.specs.Test.{allBelow}
 use Prim.Native.Nat.{ℕ, zero, suc, _+_, _-_, _*_, _/_, _%_, _≤_, _<_}
 use native.Mathlib.Nat.{add-zero, zero-add, mul-le-mul-right, div-add-mod'}
 use native.Mathlib.Numerals.{add-one}
@@ -12,7 +17,7 @@ use native.Mathlib.Omega.{arith}
 use lib.ListN.{length, getD}
 use lib.Arith.{digits-lt}
 use Rattle.lists.specs.Part.{part, part-none, part-append, part-cons, part-length}
-use Rattle.slice.specs.Lists.{part-all}
+use Rattle.slice.specs.Lists.{part-all, stands, stands-part, part-stands, all-true, all-at}
 use Rattle.slice.specs.Digits.{high-below, low-below}
 use Rattle.slice.specs.Cat.{cat, cat-none, cat-last, cat-same, cat-parts, Even, rowsOf, rows-at}
 use Rattle.slice.specs.Layout.{Plane, blockRow, block, block-is, mb, mbAt, mbSize, macroblock, macroblock-first, macroblock-next, sliceOf, slice-is, slice-length, slice-header, slice-head, mb-even, slice-last, slice-same, payload, Good, none, more, Rows}
@@ -24,6 +29,35 @@ pub record Formed (hdr : List ℕ) (size n : ℕ) (X : List ℕ) : Type 0 where
   pub begins : part X 0 (length hdr) ≡ hdr
   pub heads : (i : ℕ) → i + 1 < n → part X (length hdr + (i * (2 + size) + size)) 2 ≡ 13 ∷ 0 ∷ []
   pub last : getD X (length X - 1) 0 ≡ 128
+
+-- whether behind the samples of macroblock i stands the head of the next one
+unfoldable pub headStands : List ℕ → ℕ → List ℕ → ℕ → Bool
+headStands hdr size X i = stands (13 ∷ 0 ∷ []) X (length hdr + (i * (2 + size) + size))
+
+-- the test of header, heads and last byte
+unfoldable pub right : List ℕ → ℕ → ℕ → List ℕ → Bool
+right hdr size n X = stands hdr X 0 && (allBelow (n - 1) (headStands hdr size X) && eqb (getD X (length X - 1) 0) 128)
+
+-- what has the length and passes is formed
+pub right-formed : (hdr : List ℕ) (size n : ℕ) (X : List ℕ) → length X + 1 ≡ length hdr + n * (2 + size) → right hdr size n X ≡ true → Formed hdr size n X
+unfolding right headStands
+right-formed hdr size n X l h =
+    let a = and-eq-true-iff (stands hdr X 0) (allBelow (n - 1) (headStands hdr size X) && eqb (getD X (length X - 1) 0) 128) .0 h in
+    let b = and-eq-true-iff (allBelow (n - 1) (headStands hdr size X)) (eqb (getD X (length X - 1) 0) 128) .0 (a .1) in
+    record {
+      long = l;
+      begins = stands-part hdr X 0 (a .0);
+      heads =
+          λ i k. stands-part (13 ∷ 0 ∷ []) X (length hdr + (i * (2 + size) + size)) (all-at (n - 1) (headStands hdr size X) (b .0) i (omega arith));
+      last = eqb-true (getD X (length X - 1) 0) 128 (b .1);
+    }
+
+-- what is formed passes
+pub formed-right : {hdr : List ℕ} {size n : ℕ} {X : List ℕ} → Formed hdr size n X → right hdr size n X ≡ true
+unfolding right headStands
+formed-right {hdr} {size} {n} {X} f =
+    let a = all-true (n - 1) (headStands hdr size X) (λ i l. part-stands (13 ∷ 0 ∷ []) X (length hdr + (i * (2 + size) + size)) (f .heads i (omega arith))) in
+    rw (part-stands hdr X 0 (f .begins), a, eq-eqb (getD X (length X - 1) 0) 128 (f .last)) refl
 
 -- every slice is so
 pub slice-formed : {f : ℕ → List ℕ} {size n : ℕ} (hdr : List ℕ) → Even f size 0 n → 0 < n → Formed hdr size n (sliceOf hdr f n)

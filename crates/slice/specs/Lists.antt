@@ -1,13 +1,18 @@
--- Laws of lists in general: parts of a concatenation, elements of a list that was written over.
+-- Laws of lists in general: parts of a concatenation, elements of a list that was written over, a list that stands in another; and of a test at
+-- each number.
 -- Assumes nothing.
 use mathlib.Core.Path.{_≡_, refl, ap, _∙_}
-use mathlib.Core.List.{List, _++_, append-assoc}
-use Prim.Native.Nat.{ℕ, _+_, _-_, _≤_, _<_}
+use mathlib.Core.List.{List, [], _∷_, _++_, append-assoc}
+use mathlib.Core.Bool.{Bool, true, false, _&&_, and-eq-true-iff}
+use lib.Dec.{T, eqb}
+use borrow.Author.Tests.{eqb-true, eq-eqb}
+use Prim.Native.Nat.{ℕ, zero, suc, _+_, _-_, _≤_, _<_}
 use native.Mathlib.Omega.{arith}
 use lib.ListN.{length, take, drop, getD, length-append, length-drop, List·getD-append}
 use lib.Seq.{drop-append-le, take-append-le, drop-append-add, drop-drop, take-all, length-take-le, getD-take, getD-drop, getD-append-add}
 use Rattle.lists.specs.Fill.{splice}
-use Rattle.lists.specs.Part.{part}
+use Rattle.lists.specs.Part.{part, drop-step}
+use Rattle.lists.specs.Test.{allBelow, at-below}
 
 -- a part that lies in the first of two lists
 pub part-left : (xs ys : List ℕ) (a l : ℕ) → a + l ≤ length xs → part (xs ++ ys) a l ≡ part xs a l
@@ -55,3 +60,62 @@ unfolding splice
 splice-behind d at v j h l =
     let e : length (take at d ++ v) ≡ at + length v = rw (length-append (take at d) v, length-take-le at d h) refl in
     rw (← append-assoc (take at d) v (drop (at + length v) d)) (front-behind (take at d ++ v) d (at + length v) j e l)
+
+-- whether xs begins with vs
+unfoldable pub begins : List ℕ → List ℕ → Bool
+begins [] xs = true
+begins (v ∷ vs) [] = false
+begins (v ∷ vs) (x ∷ xs) = eqb x v && begins vs xs
+
+-- whether vs stands in s from the place p on
+unfoldable pub stands : List ℕ → List ℕ → ℕ → Bool
+stands vs s p = begins vs (drop p s)
+
+-- nothing stands everywhere
+pub stands-none : (s : List ℕ) (p : ℕ) → stands [] s p ≡ true
+unfolding stands begins
+stands-none s p = refl
+
+-- the first element, then the others
+pub stands-more : (v : ℕ) (vs s : List ℕ) (p : ℕ) → p < length s → stands (v ∷ vs) s p ≡ (eqb (getD s p 0) v && stands vs s (p + 1))
+unfolding stands begins
+stands-more v vs s p h = rw (drop-step s p h) refl
+
+-- what stands is the part there
+pub stands-part : (vs s : List ℕ) (p : ℕ) → stands vs s p ≡ true → part s p (length vs) ≡ vs
+unfolding stands part begins
+stands-part vs s p h = go vs (drop p s) h
+  where
+    go : (vs xs : List ℕ) → begins vs xs ≡ true → take (length vs) xs ≡ vs
+    go [] xs h = refl
+    go (v ∷ vs) [] h = cc
+    go (v ∷ vs) (x ∷ xs) h =
+        let b = and-eq-true-iff (eqb x v) (begins vs xs) .0 h in
+        rw (eqb-true x v (b .0), go vs xs (b .1)) refl
+
+-- and the part stands there
+pub part-stands : (vs s : List ℕ) (p : ℕ) → part s p (length vs) ≡ vs → stands vs s p ≡ true
+unfolding stands part begins
+part-stands vs s p h = go vs (drop p s) h
+  where
+    go : (vs xs : List ℕ) → take (length vs) xs ≡ vs → begins vs xs ≡ true
+    go [] xs h = refl
+    go (v ∷ vs) [] h = absurd (omega (arith, ap length h))
+    go (v ∷ vs) (x ∷ xs) h =
+        let e : x ≡ v = cc in
+        let t : take (length vs) xs ≡ vs = cc in
+        and-eq-true-iff (eqb x v) (begins vs xs) .1 (eq-eqb x v e, go vs xs t)
+
+-- a test that holds at each number below n
+pub all-true : (n : ℕ) (f : ℕ → Bool) → ((k : ℕ) → k < n → f k ≡ true) → allBelow n f ≡ true
+unfolding allBelow
+all-true zero f h = refl
+all-true (suc n) f h = and-eq-true-iff (f n) (allBelow n f) .1 (h n (omega arith), all-true n f (λ k l. h k (omega arith)))
+
+-- and holds of each
+pub all-at : (n : ℕ) (f : ℕ → Bool) → allBelow n f ≡ true → (k : ℕ) → k < n → f k ≡ true
+all-at n f h k l = go (f k) (at-below n f (rw h tt) k l)
+  where
+    go : (b : Bool) → T b → b ≡ true
+    go true t = refl
+    go false t = absurd t
