@@ -71,7 +71,7 @@ begins (v ∷ vs) (x ∷ xs) = eqb x v && begins vs xs
 unfoldable pub stands : List ℕ → List ℕ → ℕ → Bool
 stands vs s p = begins vs (drop p s)
 
--- nothing stands everywhere
+-- the empty list stands everywhere
 pub stands-none : (s : List ℕ) (p : ℕ) → stands [] s p ≡ true
 unfolding stands begins
 stands-none s p = refl
@@ -106,13 +106,13 @@ part-stands vs s p h = go vs (drop p s) h
         let t : take (length vs) xs ≡ vs = cc in
         and-eq-true-iff (eqb x v) (begins vs xs) .1 (eq-eqb x v e, go vs xs t)
 
--- a test that holds at each number below n
+-- a test that holds at each number below n holds of all
 pub all-true : (n : ℕ) (f : ℕ → Bool) → ((k : ℕ) → k < n → f k ≡ true) → allBelow n f ≡ true
 unfolding allBelow
 all-true zero f h = refl
 all-true (suc n) f h = and-eq-true-iff (f n) (allBelow n f) .1 (h n (omega arith), all-true n f (λ k l. h k (omega arith)))
 
--- and holds of each
+-- and one that holds of all holds at each
 pub all-at : (n : ℕ) (f : ℕ → Bool) → allBelow n f ≡ true → (k : ℕ) → k < n → f k ≡ true
 all-at n f h k l = go (f k) (at-below n f (rw h tt) k l)
   where
