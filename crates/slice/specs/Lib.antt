@@ -1,0 +1,8 @@
+pub mod Lists
+pub mod Digits
+pub mod Cat
+pub mod Layout
+pub mod Grid
+pub mod Filling
+pub mod Blocks
+pub mod Formed
