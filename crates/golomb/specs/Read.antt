@@ -9,7 +9,7 @@
 -- Assumes nothing.
 use mathlib.Core.Path.{_≡_, refl, sym, ap, _∙_}
 use mathlib.Core.List.{List, [], _∷_, _++_, append-assoc, append-nil}
-use mathlib.Core.Bool.{Bool, true, false, cond, _&&_}
+use mathlib.Core.Bool.{Bool, true, false, cond, _&&_, and-eq-true-iff}
 use Prim.Native.Nat.{ℕ, zero, suc, _+_, _-_, _*_, _/_, _%_, _^_, _≤_, _<_}
 use native.Mathlib.Nat.{pow-suc, suc-add}
 use native.Mathlib.Numerals.{add-one}
@@ -21,7 +21,6 @@ use lib.Seq.{take-at, drop-at, drop-drop, take-add}
 use borrow.Author.Tests.{le-leb, lt-leb, leb-true, ne-eqb}
 use Rattle.lists.specs.Every.{Below, below-head, below-tail, below-take, below-part}
 use Rattle.lists.specs.Part.{part, part-length, part-between, part-rest}
-use Rattle.lists.specs.Test.{both}
 use Rattle.bits.specs.Bits.{lowBits, value, low-length, low-over, low-value, value-low, value-lt}
 use Rattle.golomb.specs.Code.{ue, numBits, num-bits, num-same, num-most, ue-length, ue-below, ue-shape, ue-top}
 
@@ -130,7 +129,7 @@ pub ue-read : (bs : List ℕ) → Below 2 bs → whole bs ≡ true → Written b
 unfolding whole codeNum codeBits
 ue-read bs h w =
     let z : ℕ = leadingZeroBits bs in
-    let t = both (leb z 31) (leb (2 * z + 1) (length bs)) w in
+    let t = and-eq-true-iff (leb z 31) (leb (2 * z + 1) (length bs)) .0 w in
     let few : z ≤ 31 = leb-true z 31 (t .0) in
     let long : 2 * z + 1 ≤ length bs = leb-true (2 * z + 1) (length bs) (t .1) in
     let s : List ℕ = part bs (z + 1) z in

@@ -12,8 +12,8 @@ use Prim.Native.Nat.{ℕ, _+_, _-_, _≤_, _<_}
 use native.Mathlib.Numerals.{add-one}
 use native.Mathlib.Nat.{add-zero, add-assoc}
 use native.Mathlib.Omega.{arith}
-use lib.ListN.{length, take, drop, set, length-append, length-take, length-drop, take-append-drop}
-use lib.Seq.{set-split, take-at, drop-at, take-add, drop-drop, length-take-le, take-append-seam, drop-append-seam, take-length, drop-append-add}
+use lib.ListN.{length, take, drop, getD, set, length-append, length-take, length-drop, take-append-drop, List·getD-append}
+use lib.Seq.{set-split, take-at, drop-at, take-add, drop-drop, length-take-le, take-append-seam, drop-append-seam, take-length, drop-append-add, getD-take, getD-drop, getD-append-add}
 
 unfoldable pub splice : List ℕ → ℕ → List ℕ → List ℕ
 splice d at v = take at d ++ (v ++ drop (at + length v) d)
@@ -53,6 +53,37 @@ splice-over d at v w h r =
     rw (take-at (take at d) (v ++ drop (at + length v) d) at t, ← append-assoc (take at d) v (drop (at + length v) d))
     (ap (λ (l : List ℕ). take at d ++ (w ++ l))
     (rw (e, ← f) (rw (drop-append-add (take at d ++ v) (drop (length (take at d ++ v)) d) (length w - length v), f) (drop-drop (length w - length v) (at + length v) d))))
+
+-- ---- the elements of a list that was written over
+
+-- an element of what was written
+pub splice-at : (d : List ℕ) (at : ℕ) (v : List ℕ) (k : ℕ) → at ≤ length d → k < length v → getD (splice d at v) (at + k) 0 ≡ getD v k 0
+unfolding splice
+splice-at d at v k h l =
+    let t : length (take at d) ≡ at = length-take-le at d h in
+    (rw t at (getD-append-add (take at d) (v ++ drop (at + length v) d) k 0)) ∙ List·getD-append v (drop (at + length v) d) 0 k l
+
+-- an element before it
+pub splice-before : (d : List ℕ) (at : ℕ) (v : List ℕ) (j : ℕ) → at ≤ length d → j < at → getD (splice d at v) j 0 ≡ getD d j 0
+unfolding splice
+splice-before d at v j h l =
+    List·getD-append (take at d) (v ++ drop (at + length v) d) 0 j (omega (arith, length-take-le at d h)) ∙ getD-take at d j 0 l
+
+-- an element behind what took the place of a list's first n
+pub front-behind : (xs d : List ℕ) (n j : ℕ) → length xs ≡ n → n ≤ j → getD (xs ++ drop n d) j 0 ≡ getD d j 0
+front-behind xs d n j h l =
+    let e : j ≡ length xs + (j - n) = omega arith in
+    let g : n + (j - n) ≡ j = omega arith in
+    ap (λ (i : ℕ). getD (xs ++ drop n d) i 0) e ∙ (getD-append-add xs (drop n d) (j - n) 0 ∙ (getD-drop n d (j - n) 0 ∙ ap (λ (i : ℕ). getD d i 0) g))
+
+-- an element behind what was written
+pub splice-behind : (d : List ℕ) (at : ℕ) (v : List ℕ) (j : ℕ) → at ≤ length d → at + length v ≤ j → getD (splice d at v) j 0 ≡ getD d j 0
+unfolding splice
+splice-behind d at v j h l =
+    let e : length (take at d ++ v) ≡ at + length v = rw (length-append (take at d) v, length-take-le at d h) refl in
+    rw (← append-assoc (take at d) v (drop (at + length v) d)) (front-behind (take at d ++ v) d (at + length v) j e l)
+
+-- ---- a buffer that is being filled
 
 pub record Writing (d w out : List ℕ) (n : ℕ) (rest : List ℕ) : Type 0 where
   pub holds : out ≡ take n w ++ drop n d

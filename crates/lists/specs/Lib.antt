@@ -2,3 +2,4 @@ pub mod Fill
 pub mod Part
 pub mod Every
 pub mod Test
+pub mod Stands

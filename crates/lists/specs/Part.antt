@@ -10,7 +10,7 @@ use native.Mathlib.Nat.{zero-add, suc-add}
 use native.Mathlib.Numerals.{add-one}
 use native.Mathlib.Omega.{arith}
 use lib.ListN.{length, take, drop, getD, set, length-take, length-drop, take-append-drop}
-use lib.Seq.{drop-cons, drop-drop, take-add, take-take, take-nil, take-at, drop-at, getD-take, getD-drop, length-take-le}
+use lib.Seq.{drop-cons, drop-drop, take-add, take-take, take-nil, take-all, take-at, drop-at, take-append-le, drop-append-le, drop-append-add, getD-take, getD-drop, length-take-le}
 use Rattle.lists.specs.Fill.{splice}
 
 pub drop-step : (s : List ℕ) (i : ℕ) → i < length s → drop i s ≡ getD s i 0 ∷ drop (i + 1) s
@@ -86,3 +86,18 @@ part-rest s p n = rw (← drop-drop n p s) (sym (take-append-drop n (drop p s)))
 pub splice-part : (d : List ℕ) (at : ℕ) (v : List ℕ) → at + length v ≤ length d → part (splice d at v) at (length v) ≡ v
 unfolding splice
 splice-part d at v h = part-between (take at d) v (drop (at + length v) d) at (length v) (length-take-le at d (omega arith)) refl
+
+-- a part that lies in the first of two lists
+pub part-left : (xs ys : List ℕ) (a l : ℕ) → a + l ≤ length xs → part (xs ++ ys) a l ≡ part xs a l
+unfolding part
+part-left xs ys a l h = rw (drop-append-le a xs ys (omega arith)) (take-append-le l (drop a xs) ys (omega (arith, length-drop a xs)))
+
+-- a part that lies in the second
+pub part-right : (xs ys : List ℕ) (a l : ℕ) → part (xs ++ ys) (length xs + a) l ≡ part ys a l
+unfolding part
+part-right xs ys a l = rw (drop-append-add xs ys a) refl
+
+-- the whole list as a part
+pub part-all : (s : List ℕ) (n : ℕ) → length s ≡ n → part s 0 n ≡ s
+unfolding part
+part-all s n h = take-all n s (omega arith)

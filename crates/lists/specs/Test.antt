@@ -1,14 +1,15 @@
 -- Facts by computation, and a choice by an order.
 --     allBelow n f     whether f holds at each number below n: a law of all bytes is one such test, which antt computes
---     at-below         the test at each number
+--     at-below, all-at, all-true   the test at each number
 --     same             whether two lists are equal, for such a test
 --     either           one of two numbers is at most the other, or above it
 -- Assumes nothing.
-use mathlib.Core.Bool.{Bool, true, false, _&&_, false≢true}
+use mathlib.Core.Bool.{Bool, true, false, _&&_, and-eq-true-iff}
 use mathlib.Core.List.{List, [], _∷_}
 use mathlib.Core.Path.{_≡_, refl}
 use Prim.Native.Nat.{ℕ, zero, suc, _≤_, _<_}
 use native.Mathlib.Nat.{not-suc-le-zero, le-of-suc-le-suc, eq-or-lt-of-le, lt-of-not-le}
+use native.Mathlib.Omega.{arith}
 use native.Mathlib.Decide.{decLe}
 use mathlib.Core.Logic.{inl, inr}
 use lib.Dec.{T, eqb, eqb→eq}
@@ -26,15 +27,24 @@ pub right : (a b : Bool) → T (a && b) → T b
 right true b t = t
 right false b t = absurd t
 
--- the same of a test that came out true
-pub both : (a b : Bool) → (a && b) ≡ true → (a ≡ true) × (b ≡ true)
-both true b e = (refl, e)
-both false b e = absurd (false≢true e)
-
 pub at-below : (n : ℕ) (f : ℕ → Bool) → T (allBelow n f) → (k : ℕ) → k < n → T (f k)
 unfolding allBelow
 at-below zero f t k h = absurd (not-suc-le-zero h)
 at-below (suc n) f t k h = elim (eq-or-lt-of-le (le-of-suc-le-suc h)) [ inl e ↦ rw e (left (f n) (allBelow n f) t) | inr l ↦ at-below n f (right (f n) (allBelow n f) t) k l ]
+
+-- a test that holds at each number below n holds of all
+pub all-true : (n : ℕ) (f : ℕ → Bool) → ((k : ℕ) → k < n → f k ≡ true) → allBelow n f ≡ true
+unfolding allBelow
+all-true zero f h = refl
+all-true (suc n) f h = and-eq-true-iff (f n) (allBelow n f) .1 (h n (omega arith), all-true n f (λ k l. h k (omega arith)))
+
+-- and one that holds of all holds at each
+pub all-at : (n : ℕ) (f : ℕ → Bool) → allBelow n f ≡ true → (k : ℕ) → k < n → f k ≡ true
+all-at n f h k l = go (f k) (at-below n f (rw h tt) k l)
+  where
+    go : (b : Bool) → T b → b ≡ true
+    go true t = refl
+    go false t = absurd t
 
 unfoldable pub same : List ℕ → List ℕ → Bool
 same [] [] = true

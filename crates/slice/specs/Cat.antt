@@ -13,9 +13,8 @@ use native.Mathlib.Numerals.{add-one}
 use native.Mathlib.Omega.{arith}
 use lib.ListN.{length, getD, length-append}
 use lib.Seq.{ext-getD}
-use Rattle.slice.specs.Lists.{part-left, part-right}
 use Rattle.slice.specs.Digits.{high-below, low-below}
-use Rattle.lists.specs.Part.{part, part-at, part-none, part-append}
+use Rattle.lists.specs.Part.{part, part-at, part-none, part-append, part-left, part-right}
 
 unfoldable pub cat : (ℕ → List ℕ) → ℕ → ℕ → List ℕ
 cat f i zero = []

@@ -12,9 +12,8 @@ use native.Mathlib.Omega.{arith}
 use lib.ListN.{length, drop, getD, length-append, length-drop, List·getD-append}
 use lib.Seq.{ext-getD}
 use Rattle.lists.specs.Part.{part, part-at, part-length}
-use Rattle.lists.specs.Fill.{splice, splice-length}
+use Rattle.lists.specs.Fill.{splice, splice-length, front-behind, splice-at, splice-before, splice-behind}
 use Rattle.lists.specs.Test.{either}
-use Rattle.slice.specs.Lists.{front-behind, splice-at, splice-before, splice-behind}
 use Rattle.slice.specs.Cat.{tab, tab-at, tab-length}
 
 pub record Filled (d X : List ℕ) (pos : ℕ → ℕ) (m : ℕ) (out : List ℕ) (n : ℕ) : Type 0 where

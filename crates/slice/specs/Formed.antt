@@ -9,15 +9,15 @@ use mathlib.Core.List.{List, [], _∷_, _++_}
 use mathlib.Core.Bool.{Bool, true, _&&_, and-eq-true-iff}
 use lib.Dec.{eqb}
 use borrow.Author.Tests.{eqb-true, eq-eqb}
-use Rattle.lists.specs.Test.{allBelow}
+use Rattle.lists.specs.Stands.{stands, stands-part, part-stands}
+use Rattle.lists.specs.Test.{allBelow, all-true, all-at}
 use Prim.Native.Nat.{ℕ, zero, suc, _+_, _-_, _*_, _/_, _%_, _≤_, _<_}
 use native.Mathlib.Nat.{add-zero, zero-add, mul-le-mul-right, div-add-mod'}
 use native.Mathlib.Numerals.{add-one}
 use native.Mathlib.Omega.{arith}
 use lib.ListN.{length, getD}
 use lib.Arith.{digits-lt}
-use Rattle.lists.specs.Part.{part, part-none, part-append, part-cons, part-length}
-use Rattle.slice.specs.Lists.{part-all, stands, stands-part, part-stands, all-true, all-at}
+use Rattle.lists.specs.Part.{part, part-none, part-append, part-cons, part-length, part-all}
 use Rattle.slice.specs.Digits.{high-below, low-below}
 use Rattle.slice.specs.Cat.{cat, cat-none, cat-last, cat-same, cat-parts, Even, rowsOf, rows-at}
 use Rattle.slice.specs.Layout.{Plane, blockRow, block, block-is, mb, mbAt, mbSize, macroblock, macroblock-first, macroblock-next, sliceOf, slice-is, slice-length, slice-header, slice-head, mb-even, slice-last, slice-same, payload, Good, none, more, Rows}

@@ -12,8 +12,7 @@ use native.Mathlib.Nat.{zero-add, mul-le-mul-right, div-add-mod'}
 use native.Mathlib.Omega.{arith}
 use lib.ListN.{length, getD}
 use lib.Arith.{digits-lt}
-use Rattle.lists.specs.Part.{part, part-at, part-length}
-use Rattle.slice.specs.Lists.{part-left, part-right}
+use Rattle.lists.specs.Part.{part, part-at, part-length, part-left, part-right}
 use Rattle.slice.specs.Digits.{high-below, low-below}
 use Rattle.slice.specs.Cat.{cat, cat-tab, Even, rowsOf, rows-at, tab, tab-length, tab-same}
 use Rattle.slice.specs.Layout.{Plane, lent, block, mb, mbSize, payload, mb-append, mb-more, mb-at, size-append, size-more, Rows, Good, none, more, lent-rows, block-row, block-length, mb-length, mb-even, slice-samples}

@@ -20,8 +20,7 @@ use borrow.Author.Tests.{ne-eqb}
 use lib.ListN.{length, drop, getD, length-append, length-drop}
 use lib.Seq.{getD-append-seam, take-append-seam}
 use lib.Arith.{digits-div, digits-mod}
-use Rattle.lists.specs.Part.{part, part-length}
-use Rattle.slice.specs.Lists.{part-left, part-right, part-drop, part-all}
+use Rattle.lists.specs.Part.{part, part-length, part-left, part-right, part-drop, part-all}
 use Rattle.slice.specs.Digits.{high-below, low-below}
 use Rattle.slice.specs.Cat.{cat, cat-more, cat-same, cat-length, cat-part, Even, rowsOf}
 
