@@ -11,6 +11,8 @@ ghost use Rattle.golomb.specs.Signed.{se};
 ghost use Rattle.golomb.specs.Signed.{mapped as Signed·mapped, unmapped as Signed·unmapped};
 ghost use Rattle.golomb.specs.Answers.{writeOf, bufferOf, hasUe, hasSe, readUe, readSe, readU};
 
+pub mod bit_reader;
+
 // The answer of a call that writes a code: the place behind it, or a refusal that changes nothing.
 pub enum CodeWritten {
     Behind(usize),
