@@ -8,7 +8,7 @@ use mathlib.Core.Path.{_≡_, refl, sym, ap, _∙_}
 use mathlib.Core.List.{List, [], _∷_, _++_, append-assoc}
 use mathlib.Core.Bool.{Bool, true, false}
 use Prim.Native.Nat.{ℕ, zero, suc, _+_, _-_, _*_, _/_, _%_, _^_, _≤_, _<_, min}
-use native.Mathlib.Nat.{mod-lt, mod-one, mod-eq-of-lt, pow-suc, mul-le-mul-right, zero-add, suc-add, div-eq-of-lt, le-of-suc-le-suc}
+use native.Mathlib.Nat.{add-zero, mod-lt, mod-one, mod-eq-of-lt, pow-suc, mul-le-mul-right, zero-add, suc-add, div-eq-of-lt, le-of-suc-le-suc}
 use native.Mathlib.Numerals.{add-one, one-add}
 use native.Mathlib.Omega.{arith}
 use lib.Dec.{leb}
@@ -17,6 +17,7 @@ use lib.ListN.{length, take, drop, getD, set, replicate, length-append, length-t
 use lib.Seq.{getD-append-add, getD-take, getD-drop, set-append-left, drop-drop}
 use lib.Pow.{pow-mono, mod-pow-add, mod-mod-pow, field, high, low}
 use Rattle.lists.specs.Every.{Below, below-nil, below-cons, below-head, below-tail, below-append, below-take, below-drop}
+use Rattle.lists.specs.Fill.{splice, splice-length, splice-none, splice-splice}
 use Rattle.lists.specs.Part.{set-append-add, drop-step, part, part-drop, part-take, part-rest}
 use Rattle.lists.specs.Test.{either}
 
@@ -280,3 +281,28 @@ from-split s place n h = rw (← part-take (bitsOf s) (bitCount s) place n h) (p
 pub count-same : (s t : List ℕ) → length s ≡ length t → bitCount s ≡ bitCount t
 unfolding bitCount
 count-same s t e = rw e refl
+
+-- ---- bits written from a place on
+
+-- the buffer s became t by `code` being written at the place, and p is the place behind it
+pub record BitsPut (s : List ℕ) (place : ℕ) (code t : List ℕ) (p : ℕ) : Type 0 where
+  pub behind : p ≡ place + length code
+  pub bits : bitsOf t ≡ splice (bitsOf s) place code
+
+-- nothing written
+pub put-none : (s : List ℕ) (place : ℕ) → BitsPut s place [] s place
+put-none s place = record { behind = sym (add-zero place); bits = sym (splice-none (bitsOf s) place) }
+
+-- a code, and another behind it
+pub put-more : {s t v : List ℕ} {place p q : ℕ} (a b : List ℕ) → place + length (a ++ b) ≤ bitCount s → BitsPut s place a t p → BitsPut t p b v q → BitsPut s place (a ++ b) v q
+put-more {s} {t} {v} {place} {p} {q} a b h x y =
+    let l = length-append a b in
+    let r : place + length a + length b ≤ length (bitsOf s) = omega (arith, count-length s, bits-length s) in
+    let e : bitsOf v ≡ splice (splice (bitsOf s) place a) (place + length a) b = y .bits ∙ rw (x .bits, x .behind) refl in
+    record { behind = omega arith; bits = e ∙ splice-splice (bitsOf s) place a b r }
+
+-- the buffer keeps its length, and so its count of bits
+pub put-length : {s t : List ℕ} {place p : ℕ} (a : List ℕ) → place + length a ≤ bitCount s → BitsPut s place a t p → length t ≡ length s
+put-length {s} {t} {place} {p} a h x =
+    let r : place + length a ≤ length (bitsOf s) = omega (arith, count-length s, bits-length s) in
+    omega (arith, ap length (x .bits), splice-length (bitsOf s) place a r, bits-length s, bits-length t)

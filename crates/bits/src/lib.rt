@@ -4,9 +4,8 @@ ghost use mathlib.Core.Path.{_≡_};
 ghost use Prim.Native.Nat.{_+_, _*_, _≤_, _<_};
 ghost use lib.Dec.{leb};
 ghost use lib.ListN.{length, getD, set};
-ghost use Rattle.lists.specs.Fill.{splice};
 ghost use Rattle.lists.specs.Part.{part};
-ghost use Rattle.bits.specs.Bits.{lowBits, bitsOf, value, bitCount, roomFor};
+ghost use Rattle.bits.specs.Bits.{lowBits, bitsOf, value, bitCount, roomFor, BitsPut};
 
 // Whether `n` bits have room at `place` of a buffer of `len` bytes.
 pub fn room(len: usize, place: usize, n: usize) -> bool
@@ -48,16 +47,17 @@ pub fn set_bit(s: &mut [u8], place: usize, v: u8)
     s[i] = with_bit(s[i], place % 8, v);
 }
 
-// Writes `v` in `n` bits from `place` on.
-pub fn put_bits(s: &mut [u8], place: usize, n: usize, v: u64)
+// Writes `v` in `n` bits from `place` on, and answers the place behind them.
+pub fn put_bits(s: &mut [u8], place: usize, n: usize, v: u64) -> usize
     requires { ⌜ (n ≤ 64) × (place + n ≤ bitCount (now s)) ⌝ }
-    ensures { λ _. ⌜ bitsOf (now (s .exit)) ≡ splice (bitsOf (now (s .entry))) place (lowBits n v) ⌝ }
+    ensures { λ r. ⌜ BitsPut (now (s .entry)) place (lowBits n v) (now (s .exit)) r ⌝ }
 {
     let mut i = 0;
     while i < n {
         set_bit(s, place + i, ((v >> (n - 1 - i)) % 2) as u8);
         i += 1;
     }
+    place + n
 }
 
 // The number that the `n` bits from `place` on spell.

@@ -4,7 +4,8 @@ ghost use mathlib.Core.Path.{_≡_};
 ghost use mathlib.Core.Bool.{true};
 ghost use Prim.Native.Nat.{_+_, _-_, _≤_, _^_, min};
 ghost use lib.IntN.{natAbs};
-ghost use Rattle.bits.specs.Bits.{bitsFrom};
+ghost use lib.ListN.{length};
+ghost use Rattle.bits.specs.Bits.{bitsFrom, bitCount, BitsPut};
 ghost use Rattle.golomb.specs.Code.{numBits, ue};
 ghost use Rattle.golomb.specs.Read.{leadingZeroBits};
 ghost use Rattle.golomb.specs.Signed.{se};
@@ -54,18 +55,33 @@ fn num_bits(x: u32) -> usize
     value
 }
 
-// Writes the unsigned code of `x`, a number that has one.
+// The bits of the unsigned code of `x`, a number that has one.
+fn code_len(x: u32) -> usize
+    requires { ⌜ x ≤ 2 ^ 32 - 2 ⌝ }
+    ensures { λ r. ⌜ r ≡ length (ue x) ⌝ }
+{
+    2 * num_bits(x + 1) - 1
+}
+
+// Writes the unsigned code of `x` where it has room, and answers the place behind it: a leaf for proved callers.
+pub fn put_ue(buffer: &mut [u8], place: usize, x: u32) -> usize
+    requires { ⌜ (x ≤ 2 ^ 32 - 2) × (place + length (ue x) ≤ bitCount (now buffer)) ⌝ }
+    ensures { λ r. ⌜ BitsPut (now (buffer .entry)) place (ue x) (now (buffer .exit)) r ⌝ }
+{
+    let n = code_len(x);
+    bits::put_bits(buffer, place, n, x as u64 + 1)
+}
+
+// Writes the unsigned code of `x`, a number that has one, or finds no room.
 fn put_code(buffer: &mut [u8], place: usize, x: u32) -> CodeWritten
     requires { ⌜ x ≤ 2 ^ 32 - 2 ⌝ }
     ensures answer { λ r. ⌜ r ≡ writeOf true (ue x) (now (buffer .entry)) place ⌝ }
     ensures bytes { λ r. ⌜ now (buffer .exit) ≡ bufferOf (writeOf true (ue x) (now (buffer .entry)) place) (ue x) (now (buffer .entry)) place ⌝ }
 {
-    let n = 2 * num_bits(x + 1) - 1;
-    if !bits::room(buffer.len(), place, n) {
+    if !bits::room(buffer.len(), place, code_len(x)) {
         return CodeWritten::NoRoom;
     }
-    bits::put_bits(buffer, place, n, x as u64 + 1);
-    CodeWritten::Behind(place + n)
+    CodeWritten::Behind(put_ue(buffer, place, x))
 }
 
 // Writes the unsigned code of `x` at `place`.

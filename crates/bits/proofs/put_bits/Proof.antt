@@ -66,6 +66,9 @@ loop-again c =
     let g = put (rw (low-step (k .args .n) (k .args .v) (l .i) h) at (l .inv .2)) in
     (search needs, c .before .before .set-bit .kept .0 ∙ l .inv .1, rw (e, ← add-assoc (k .args .place) (l .i) 1) g)
 
+add-result : tie.Need-add-result Inv-loop μ-loop
+add-result c = let f = fits (c .before .before .before) in omega arith
+
 same-length : tie.Need-same-length Inv-loop μ-loop
 same-length c = c .before .loop .inv .1
 
@@ -74,7 +77,8 @@ returns c =
     let k = c .before .before .before in
     let l = c .before .loop in
     let f = fits k in
-    done-at (k .args .place) (lowBits (k .args .n) (k .args .v)) (rw (low-end (k .args .n) (k .args .v) (l .i) (c .loop-test .left)) at (l .inv .2)) (omega (arith, bits-length (k .args .s .now))) .0
+    let d = done-at (k .args .place) (lowBits (k .args .n) (k .args .v)) (rw (low-end (k .args .n) (k .args .v) (l .i) (c .loop-test .left)) at (l .inv .2)) (omega (arith, bits-length (k .args .s .now))) in
+    record { behind = omega (arith, low-length (k .args .n) (k .args .v)); bits = d .0 }
 
 pub put-bits-spec : {M : Type 1} → statement M
 put-bits-spec =
@@ -92,5 +96,6 @@ put-bits-spec =
     add-i
     loop-less
     loop-again
+    add-result
     same-length
     returns)
