@@ -1,0 +1,26 @@
+-- `ycbcr_image::row_bytes` meets its contract, by cases of the depth. Assumes nothing.
+use native.Mathlib.Omega.{arith}
+use Rattle.ycbcr_image.specs.Form.{bytesOf}
+use borrow.Author.Needs.{needs}
+use Rattle.ycbcr_image.proofs.row_bytes.Statement.{statement}
+use Rattle.ycbcr_image.proofs.row_bytes.Tie as tie
+
+enum-told : tie.Need-enum-told
+enum-told c = search needs
+
+enum-told-2 : tie.Need-enum-told-2
+enum-told-2 c = search needs
+
+mul-result : tie.Need-mul-result
+mul-result c = search needs
+
+returns : tie.Need-returns
+unfolding bytesOf
+returns c = rw (c .enum-told .given .1) (omega arith)
+
+returns-2 : tie.Need-returns-2
+unfolding bytesOf
+returns-2 c = rw (c .enum-told2 .given .1) (omega arith)
+
+pub row-bytes-spec : {M : Type 1} → statement M
+row-bytes-spec = tie.close (tie.spec enum-told enum-told-2 mul-result returns returns-2)
