@@ -149,6 +149,7 @@ fine k d w h t =
     across : (k : Kind) → Sound (record { width = w; height = h; form = formOf k d }) → (nextMultiple w 16 - w) % cropUnitX (formOf k d) ≡ 0
     across Mono g = omega arith
     across Colour g = omega (arith, g .odd refl)
+
     down : (k : Kind) → Sound (record { width = w; height = h; form = formOf k d }) → (nextMultiple h 16 - h) % cropUnitY (formOf k d) ≡ 0
     down Mono g = omega arith
     down Colour g = omega (arith, g .high refl)
@@ -171,6 +172,10 @@ pub payload-most : {q : Sequence} → Fine q → frameHeightInMbs q * picWidthIn
 payload-most {q} g =
     let b : 2 + mbBytes (q .form) ≤ 578 = omega arith in
     mul-le-mul (mbs-most g) b
+
+-- a padded row of a plane that is there is not empty
+pub row-some : {q : Sequence} → Fine q → (p : ℕ) → p < planes (q .form) → 0 < paddedRowBytes q p
+row-some g p l = omega (arith, g .plane p .visible-row, g .present p l .row)
 
 pub row-in : {q : Sequence} → Fine q → (p my y : ℕ) → my < frameHeightInMbs q → y < blockHeight (q .form) p → my * blockHeight (q .form) p + y < paddedHeight q p
 row-in g p my y a b = rw (g .plane p .high) (digits-lt a b)

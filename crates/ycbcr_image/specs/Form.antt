@@ -44,6 +44,18 @@ mono f = eqb (f .chroma) 0
 unfoldable pub planes : Form → ℕ
 planes f = cond (mono f) 1 3
 
+pub planes-some : (f : Form) → 0 < planes f
+unfolding planes
+planes-some f = some (mono f)
+  where
+    some : (b : Bool) → 0 < cond b 1 3
+    some true = omega arith
+    some false = omega arith
+
+pub planes-colour : (f : Form) → mono f ≡ false → planes f ≡ 3
+unfolding planes
+planes-colour f e = rw e refl
+
 -- of plane p: the number `luma` for Y, `chroma` for Cb and Cr, and 0 for a plane that a monochrome picture has not
 unfoldable pub inPlane : Form → ℕ → ℕ → ℕ → ℕ
 inPlane f zero luma chroma = luma

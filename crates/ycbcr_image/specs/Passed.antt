@@ -20,7 +20,7 @@ use Rattle.ycbcr_image.specs.Tests.{or-left, or-right}
 use Rattle.ycbcr_image.specs.Form.{mono, planes, blockRowBytes}
 use Rattle.ycbcr_image.specs.Sizes.{Sequence, picWidthInMbs, paddedRowBytes, paddedHeight}
 use Rattle.ycbcr_image.specs.Refusals.{planeOf, ofPicture, sizeBad, depthsBad, fourBad, oddBad, heightBad, sessionBad, accepted, strideBad, rowsBad, sizesRefusal, planeRefusal, first, chromaRefusal, planesRefusal, refusalOf, refusalNext}
-use Rattle.ycbcr_image.specs.Accepted.{Fine, fine}
+use Rattle.ycbcr_image.specs.Accepted.{Fine, fine, row-some}
 
 pub first-none : (n later : ℕ) → n ≡ 0 → first n later ≡ later
 unfolding first
@@ -40,7 +40,7 @@ row-none : (b : Bool) (n later : ℕ) → cond b (suc n) later ≡ 0 → (b ≡ 
 row-none true n later e = absurd (omega arith)
 row-none false n later e = (refl, e)
 
-sizes-accepted : (i : YCbCrImage) → sizesRefusal i ≡ 0 → accepted (ofPicture i) ≡ true
+pub sizes-accepted : (i : YCbCrImage) → sizesRefusal i ≡ 0 → accepted (ofPicture i) ≡ true
 unfolding sizesRefusal accepted
 sizes-accepted i e =
     let a = row-none (sizeBad (ofPicture i)) _ _ e in
@@ -89,6 +89,7 @@ pass i s l =
   where
     chroma : (p : ℕ) → suc p < planes (ofPicture i .form) → chromaRefusal i ≡ 0
     chroma p h = rw (in-colour (mono (ofPicture i .form)) p h .0) at (neither _ _ l .1)
+
     each : (p : ℕ) → p < planes (ofPicture i .form) → Lent (ofPicture i) p (planeOf i p)
     each zero h = lent _ 0 _ (neither _ _ l .0)
     each (suc zero) h = lent _ 1 _ (neither _ _ (chroma 0 h) .0)
@@ -112,6 +113,7 @@ same s q e =
   where
     of : ℕ → ℕ → ℕ → ℕ → Sequence
     of w h c d = record { width = w; height = h; form = record { chroma = c; depth = d } }
+
     equal : {w h c d w′ h′ c′ d′ : ℕ} → w ≡ w′ → h ≡ h′ → c ≡ c′ → d ≡ d′ → of w′ h′ c′ d′ ≡ of w h c d
     equal a b c d = rw (a, b, c, d) refl
 
@@ -129,4 +131,4 @@ mono-alone w h y cb cr cb′ cr′ = refl
 
 pub stride-zero : {q : Sequence} → Fine q → (p : ℕ) → p < planes (q .form) → (a : DataPlane) → a .stride ≡ 0 → strideBad q p a ≡ true
 unfolding strideBad
-stride-zero {q} g p l a e = let h : a .stride < paddedRowBytes q p = omega (arith, g .plane p, g .present p l) in lt-ltb _ _ h
+stride-zero {q} g p l a e = let h : a .stride < paddedRowBytes q p = omega (arith, row-some g p l) in lt-ltb _ _ h

@@ -5,7 +5,7 @@ ghost use mathlib.Core.Bool.{true};
 ghost use Prim.Native.Nat.{_+_, _*_, _^_, _<_, _≤_};
 ghost use Rattle.ycbcr_image.specs.Form.{depthOf, chromaOf, mono, planes, inPlane, bytesOf, subWidthC, subHeightC, blockWidth, blockHeight, blockRowBytes, cropUnitX, cropUnitY};
 ghost use Rattle.ycbcr_image.specs.Sizes.{sequenceOf, divCeil, nextMultiple, picWidthInMbs, frameHeightInMbs, visibleWidth, visibleHeight, paddedWidth, paddedHeight, visibleRowBytes, paddedRowBytes, tightLength};
-ghost use Rattle.ycbcr_image.specs.Refusals.{sessionOf, sizeBad, depthsBad, fourBad, oddBad, heightBad, sessionBad, accepted, strideBad, rowsBad, sizesRefusal, planeRefusal, chromaRefusal, planesRefusal, refusalOf, refusalNext};
+ghost use Rattle.ycbcr_image.specs.Refusals.{sessionOf, ofPicture, sizeBad, depthsBad, fourBad, oddBad, heightBad, sessionBad, accepted, strideBad, rowsBad, sizesRefusal, planeRefusal, chromaRefusal, planesRefusal, refusalOf, refusalNext};
 
 // The bits of a sample.
 pub enum BitDepth {
@@ -350,7 +350,7 @@ pub fn size_accepted(s: Session) -> bool
 
 // 7 and 8 for plane p.
 fn check_sizes(s: Session, p: u32, a: DataPlane) -> u32
-    requires { ⌜ p < planes (sequenceOf s .form) ⌝ }
+    requires { ⌜ (accepted (sequenceOf s) ≡ true) × (p < planes (sequenceOf s .form)) ⌝ }
     ensures { λ r. ⌜ r ≡ planeRefusal (sequenceOf s) p a ⌝ }
 {
     let row = padded_row_bytes(s, p);
@@ -395,7 +395,7 @@ fn check_size(i: YCbCrImage) -> u32
 
 // 7 and 8, for Cb, then Cr.
 fn check_chroma(i: YCbCrImage) -> u32
-    requires { ⌜ planes (sequenceOf (sessionOf i) .form) ≡ 3 ⌝ }
+    requires { ⌜ (accepted (ofPicture i) ≡ true) × (planes (ofPicture i .form) ≡ 3) ⌝ }
     ensures { λ r. ⌜ r ≡ chromaRefusal i ⌝ }
 {
     let s = session_of(i);
@@ -409,6 +409,7 @@ fn check_chroma(i: YCbCrImage) -> u32
 
 // 7 and 8, for Y, then Cb, then Cr.
 fn check_planes(i: YCbCrImage) -> u32
+    requires { ⌜ accepted (ofPicture i) ≡ true ⌝ }
     ensures { λ r. ⌜ r ≡ planesRefusal i ⌝ }
 {
     let s = session_of(i);

@@ -1,40 +1,39 @@
+-- `ycbcr_image::check_next` meets its contract: 1 to 5 are answered first, then 6. Assumes nothing.
+use mathlib.Core.Path.{_≡_, refl, sym, ap, _∙_}
+use Rattle.ycbcr_image.specs.declared.Session.{Session}
+use Rattle.ycbcr_image.specs.Sizes.{sequenceOf}
+use Rattle.ycbcr_image.specs.Refusals.{ofPicture, sessionBad, refusalNext}
+use Rattle.ycbcr_image.specs.Passed.{first-none, first-some, sizes-accepted}
 use borrow.Author.Needs.{needs}
 use Rattle.ycbcr_image.proofs.check_next.Statement.{statement}
 use Rattle.ycbcr_image.proofs.check_next.Tie as tie
-use Rattle.ycbcr_image.proofs.check_next.Reads as reads
-use Rattle.ycbcr_image.proofs.check_next.Lts as lts
-use Rattle.ycbcr_image.proofs.check_planes.Reads as check-planes-reads
-use Rattle.ycbcr_image.proofs.check_size.Reads as check-size-reads
-use Rattle.ycbcr_image.proofs.session_bad.Reads as session-bad-reads
-use Rattle.ycbcr_image.proofs.session_of.Reads as session-of-reads
 
--- src/lib.rt:440:9
 check-size-requires : tie.Need-check-size-requires
 check-size-requires c κs = search needs
 
--- src/lib.rt:442:9
-returns : tie.Need-returns
-returns c = ?
+held : (c : tie.After-session-bad) → sessionBad (sequenceOf (c .before .before .before .before .args .held)) (ofPicture (c .before .before .before .before .args .i)) ≡ c .session-bad .result
+held c = sym (c .session-bad .ensures ∙ ap (λ (s : Session). sessionBad (sequenceOf (c .before .before .before .before .args .held)) (sequenceOf s)) (c .before .session-of .ensures))
 
--- src/lib.rt:444:26
+returns : tie.Need-returns
+unfolding refusalNext
+returns c = c .before .check-size .ensures ∙ sym (first-some _ _ (λ z. c .if1 .taken (c .before .check-size .ensures ∙ z)))
+
 session-of-requires : tie.Need-session-of-requires
 session-of-requires c κs = search needs
 
--- src/lib.rt:444:8
 session-bad-requires : tie.Need-session-bad-requires
 session-bad-requires c κs = search needs
 
--- src/lib.rt:445:9
 returns-2 : tie.Need-returns-2
-returns-2 c = ?
+unfolding refusalNext
+returns-2 c = sym (first-none _ _ (sym (c .before .before .before .before .check-size .ensures) ∙ c .before .before .before .if1 .left) ∙ rw (held (c .before) ∙ c .if2 .taken) refl)
 
--- src/lib.rt:447:5
 check-planes-requires : tie.Need-check-planes-requires
-check-planes-requires c κs = search needs
+check-planes-requires c κs = sizes-accepted _ (sym (c .before .before .before .before .check-size .ensures) ∙ c .before .before .before .if1 .left)
 
--- src/lib.rt:437:1
 returns-3 : tie.Need-returns-3
-returns-3 c = ?
+unfolding refusalNext
+returns-3 c = c .check-planes .ensures ∙ sym (first-none _ _ (sym (c .before .before .before .before .before .check-size .ensures) ∙ c .before .before .before .before .if1 .left) ∙ rw (held (c .before .before) ∙ c .before .if2 .left) refl)
 
 pub check-next-spec : {M : Type 1} → statement M
 check-next-spec =

@@ -1,62 +1,76 @@
+-- `ycbcr_image::check_size` meets its contract: the tests are those of the table, and they are answered in its order. Assumes nothing.
+use mathlib.Core.Path.{_≡_, refl, sym, ap, _∙_}
+use mathlib.Core.Bool.{Bool}
+use Rattle.ycbcr_image.specs.declared.Session.{Session}
+use Rattle.ycbcr_image.specs.Sizes.{Sequence, sequenceOf}
+use Rattle.ycbcr_image.specs.Refusals.{ofPicture, sizeBad, depthsBad, fourBad, oddBad, heightBad, sizesRefusal}
 use borrow.Author.Needs.{needs}
 use Rattle.ycbcr_image.proofs.check_size.Statement.{statement}
 use Rattle.ycbcr_image.proofs.check_size.Tie as tie
-use Rattle.ycbcr_image.proofs.check_size.Reads as reads
-use Rattle.ycbcr_image.proofs.check_size.Lts as lts
-use Rattle.ycbcr_image.proofs.depths_bad.Reads as depths-bad-reads
-use Rattle.ycbcr_image.proofs.four_bad.Reads as four-bad-reads
-use Rattle.ycbcr_image.proofs.height_bad.Reads as height-bad-reads
-use Rattle.ycbcr_image.proofs.odd_bad.Reads as odd-bad-reads
-use Rattle.ycbcr_image.proofs.session_of.Reads as session-of-reads
-use Rattle.ycbcr_image.proofs.size_bad.Reads as size-bad-reads
 
--- src/lib.rt:372:9
 session-of-requires : tie.Need-session-of-requires
 session-of-requires c κs = search needs
 
--- src/lib.rt:373:9
 size-bad-requires : tie.Need-size-bad-requires
 size-bad-requires c κs = search needs
 
--- src/lib.rt:374:9
 depths-bad-requires : tie.Need-depths-bad-requires
 depths-bad-requires c κs = search needs
 
--- src/lib.rt:375:9
 four-bad-requires : tie.Need-four-bad-requires
 four-bad-requires c κs = search needs
 
--- src/lib.rt:376:9
 odd-bad-requires : tie.Need-odd-bad-requires
 odd-bad-requires c κs = search needs
 
--- src/lib.rt:377:9
 height-bad-requires : tie.Need-height-bad-requires
 height-bad-requires c κs = search needs
 
--- src/lib.rt:379:9
+-- a test of the session is one of the picture
+of : (c : tie.After-session-of) (f : Sequence → Bool) (b : Bool) → b ≡ f (sequenceOf (c .session-of .result)) → f (ofPicture (c .before .args .i)) ≡ b
+of c f b e = sym (e ∙ ap (λ (s : Session). f (sequenceOf s)) (c .session-of .ensures))
+
+abbrev S : tie.After-height-bad → tie.After-session-of
+S c = c .before .before .before .before .before
+
+size : (c : tie.After-height-bad) → sizeBad (ofPicture (S c .before .args .i)) ≡ c .before .before .before .before .size-bad .result
+size c = of (S c) sizeBad _ (c .before .before .before .before .size-bad .ensures)
+
+depths : (c : tie.After-height-bad) → depthsBad (S c .before .args .i) ≡ c .before .before .before .depths-bad .result
+depths c = sym (c .before .before .before .depths-bad .ensures)
+
+four : (c : tie.After-height-bad) → fourBad (ofPicture (S c .before .args .i)) ≡ c .before .before .four-bad .result
+four c = of (S c) fourBad _ (c .before .before .four-bad .ensures)
+
+odd : (c : tie.After-height-bad) → oddBad (ofPicture (S c .before .args .i)) ≡ c .before .odd-bad .result
+odd c = of (S c) oddBad _ (c .before .odd-bad .ensures)
+
+height : (c : tie.After-height-bad) → heightBad (ofPicture (S c .before .args .i)) ≡ c .height-bad .result
+height c = of (S c) heightBad _ (c .height-bad .ensures)
+
 returns : tie.Need-returns
-returns c = ?
+unfolding sizesRefusal
+returns c = rw (size (c .before) ∙ c .if1 .taken) refl
 
--- src/lib.rt:382:9
 returns-2 : tie.Need-returns-2
-returns-2 c = ?
+unfolding sizesRefusal
+returns-2 c = rw (size (c .before .before) ∙ c .before .if1 .left, depths (c .before .before) ∙ c .if2 .taken) refl
 
--- src/lib.rt:385:9
 returns-3 : tie.Need-returns-3
-returns-3 c = ?
+unfolding sizesRefusal
+returns-3 c = rw (size (c .before .before .before) ∙ c .before .before .if1 .left, depths (c .before .before .before) ∙ c .before .if2 .left, four (c .before .before .before) ∙ c .if3 .taken) refl
 
--- src/lib.rt:388:9
 returns-4 : tie.Need-returns-4
-returns-4 c = ?
+unfolding sizesRefusal
+returns-4 c = rw (size (c .before .before .before .before) ∙ c .before .before .before .if1 .left, depths (c .before .before .before .before) ∙ c .before .before .if2 .left, four (c .before .before .before .before) ∙ c .before .if3 .left, odd (c .before .before .before .before) ∙ c .if4 .taken) refl
 
--- src/lib.rt:391:9
 returns-5 : tie.Need-returns-5
-returns-5 c = ?
+unfolding sizesRefusal
+returns-5 c = rw (size (c .before .before .before .before .before) ∙ c .before .before .before .before .if1 .left, depths (c .before .before .before .before .before) ∙ c .before .before .before .if2 .left, four (c .before .before .before .before .before) ∙ c .before .before .if3 .left, odd (c .before .before .before .before .before) ∙ c .before .if4 .left, height (c .before .before .before .before .before) ∙ c .if5 .taken) refl
 
--- src/lib.rt:369:1
 returns-6 : tie.Need-returns-6
-returns-6 c = ?
+unfolding sizesRefusal
+returns-6 c = rw (size (c .before .before .before .before .before) ∙ c .before .before .before .before .if1 .left, depths (c .before .before .before .before .before) ∙ c .before .before .before .if2 .left, four (c .before .before .before .before .before) ∙ c .before .before .if3 .left, odd (c .before .before .before .before .before) ∙ c .before .if4 .left, height (c .before .before .before .before .before) ∙ c .if5 .left) refl
 
 pub check-size-spec : {M : Type 1} → statement M
 check-size-spec =

@@ -1,26 +1,24 @@
+-- `ycbcr_image::check_start` meets its contract: 1 to 5 are answered first. Assumes nothing.
+use mathlib.Core.Path.{sym, _∙_}
+use Rattle.ycbcr_image.specs.Refusals.{refusalOf}
+use Rattle.ycbcr_image.specs.Passed.{first-none, first-some, sizes-accepted}
 use borrow.Author.Needs.{needs}
 use Rattle.ycbcr_image.proofs.check_start.Statement.{statement}
 use Rattle.ycbcr_image.proofs.check_start.Tie as tie
-use Rattle.ycbcr_image.proofs.check_start.Reads as reads
-use Rattle.ycbcr_image.proofs.check_start.Lts as lts
-use Rattle.ycbcr_image.proofs.check_planes.Reads as check-planes-reads
-use Rattle.ycbcr_image.proofs.check_size.Reads as check-size-reads
 
--- src/lib.rt:429:9
 check-size-requires : tie.Need-check-size-requires
 check-size-requires c κs = search needs
 
--- src/lib.rt:431:9
 returns : tie.Need-returns
-returns c = ?
+unfolding refusalOf
+returns c = c .before .check-size .ensures ∙ sym (first-some _ _ (λ z. c .if1 .taken (c .before .check-size .ensures ∙ z)))
 
--- src/lib.rt:433:5
 check-planes-requires : tie.Need-check-planes-requires
-check-planes-requires c κs = search needs
+check-planes-requires c κs = sizes-accepted _ (sym (c .before .check-size .ensures) ∙ c .if1 .left)
 
--- src/lib.rt:426:1
 returns-2 : tie.Need-returns-2
-returns-2 c = ?
+unfolding refusalOf
+returns-2 c = c .check-planes .ensures ∙ sym (first-none _ _ (sym (c .before .before .check-size .ensures) ∙ c .before .if1 .left))
 
 pub check-start-spec : {M : Type 1} → statement M
 check-start-spec = tie.close (tie.spec check-size-requires returns check-planes-requires returns-2)

@@ -1,47 +1,51 @@
+-- `ycbcr_image::depths_bad` meets its contract, test by test. Assumes nothing.
+use mathlib.Core.Path.{_≡_, refl, sym, ap, _∙_}
+use mathlib.Core.Bool.{Bool, not}
+use Prim.Native.Nat.{ℕ}
+use borrow.Author.Tests.{eq-eqb, ne-eqb}
+use lib.Dec.{eqb}
+use Rattle.ycbcr_image.specs.declared.Session.{Session}
+use Rattle.ycbcr_image.specs.Form.{mono}
+use Rattle.ycbcr_image.specs.Sizes.{sequenceOf}
+use Rattle.ycbcr_image.specs.Refusals.{ofPicture, depthsBad}
 use borrow.Author.Needs.{needs}
 use Rattle.ycbcr_image.proofs.depths_bad.Statement.{statement}
 use Rattle.ycbcr_image.proofs.depths_bad.Tie as tie
-use Rattle.ycbcr_image.proofs.depths_bad.Reads as reads
-use Rattle.ycbcr_image.proofs.depths_bad.Lts as lts
-use Rattle.ycbcr_image.proofs.is_monochrome.Reads as is-monochrome-reads
-use Rattle.ycbcr_image.proofs.num_bits.Reads as num-bits-reads
-use Rattle.ycbcr_image.proofs.session_of.Reads as session-of-reads
 
--- src/lib.rt:268:22
 session-of-requires : tie.Need-session-of-requires
 session-of-requires c κs = search needs
 
--- src/lib.rt:268:8
 is-monochrome-requires : tie.Need-is-monochrome-requires
 is-monochrome-requires c κs = search needs
 
--- src/lib.rt:269:9
-returns : tie.Need-returns
-returns c = ?
+-- what `is_monochrome` answered is that of the picture
+colour : (c : tie.After-is-monochrome) → mono (ofPicture (c .before .before .before .before .before .args .i) .form) ≡ c .is-monochrome .result
+colour c = sym (c .is-monochrome .ensures ∙ ap (λ (s : Session). mono (sequenceOf s .form)) (c .before .session-of .ensures))
 
--- src/lib.rt:271:8
+returns : tie.Need-returns
+unfolding depthsBad
+returns c = rw (colour (c .before) ∙ c .if1 .taken) refl
+
 num-bits-requires : tie.Need-num-bits-requires
 num-bits-requires c κs = search needs
 
--- src/lib.rt:271:29
 num-bits-requires-2 : tie.Need-num-bits-requires-2
 num-bits-requires-2 c κs = search needs
 
--- src/lib.rt:272:9
 returns-2 : tie.Need-returns-2
-returns-2 c = ?
+unfolding depthsBad
+returns-2 c = rw (colour (c .before .before .before .before) ∙ c .before .before .before .if1 .left, ne-eqb _ _ (λ e. c .if2 .taken (c .before .before .num-bits .ensures ∙ e ∙ sym (c .before .num-bits2 .ensures)))) refl
 
--- src/lib.rt:274:5
 num-bits-requires-3 : tie.Need-num-bits-requires-3
 num-bits-requires-3 c κs = search needs
 
--- src/lib.rt:274:26
 num-bits-requires-4 : tie.Need-num-bits-requires-4
 num-bits-requires-4 c κs = search needs
 
--- src/lib.rt:259:1
 returns-3 : tie.Need-returns-3
-returns-3 c = ?
+unfolding depthsBad
+returns-3 c = rw (colour (c .before .before .before .before .before .before) ∙ c .before .before .before .before .before .if1 .left, eq-eqb _ _ (sym (c .before .before .before .before .num-bits .ensures) ∙ c .before .before .if2 .left ∙ c .before .before .before .num-bits2 .ensures))
+    (cc (c .before .num-bits3 .ensures, c .num-bits4 .ensures))
 
 pub depths-bad-spec : {M : Type 1} → statement M
 depths-bad-spec =

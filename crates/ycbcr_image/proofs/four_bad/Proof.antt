@@ -1,30 +1,28 @@
+-- `ycbcr_image::four_bad` meets its contract, test by test. Assumes nothing.
+use mathlib.Core.Path.{refl, sym, _∙_}
+use borrow.Author.Tests.{eq-eqb, ne-eqb}
+use Rattle.ycbcr_image.specs.Refusals.{fourBad}
 use borrow.Author.Needs.{needs}
 use Rattle.ycbcr_image.proofs.four_bad.Statement.{statement}
 use Rattle.ycbcr_image.proofs.four_bad.Tie as tie
-use Rattle.ycbcr_image.proofs.four_bad.Reads as reads
-use Rattle.ycbcr_image.proofs.four_bad.Lts as lts
-use Rattle.ycbcr_image.proofs.is_monochrome.Reads as is-monochrome-reads
-use Rattle.ycbcr_image.proofs.num_bits.Reads as num-bits-reads
 
--- src/lib.rt:282:8
 is-monochrome-requires : tie.Need-is-monochrome-requires
 is-monochrome-requires c κs = search needs
 
--- src/lib.rt:283:9
 returns : tie.Need-returns
-returns c = ?
+unfolding fourBad
+returns c = rw (sym (c .before .is-monochrome .ensures) ∙ c .if1 .taken) refl
 
--- src/lib.rt:285:8
 num-bits-requires : tie.Need-num-bits-requires
 num-bits-requires c κs = search needs
 
--- src/lib.rt:286:9
 returns-2 : tie.Need-returns-2
-returns-2 c = ?
+unfolding fourBad
+returns-2 c = rw (sym (c .before .before .before .is-monochrome .ensures) ∙ c .before .before .if1 .left, ne-eqb _ _ (λ e. c .if2 .taken (c .before .num-bits .ensures ∙ e))) refl
 
--- src/lib.rt:278:1
 returns-3 : tie.Need-returns-3
-returns-3 c = ?
+unfolding fourBad
+returns-3 c = rw (sym (c .before .before .before .before .is-monochrome .ensures) ∙ c .before .before .before .if1 .left, eq-eqb _ _ (sym (c .before .before .num-bits .ensures) ∙ c .before .if2 .left)) refl
 
 pub four-bad-spec : {M : Type 1} → statement M
 four-bad-spec =

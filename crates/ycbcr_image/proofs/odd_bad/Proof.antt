@@ -1,30 +1,31 @@
+-- `ycbcr_image::odd_bad` meets its contract, test by test. Assumes nothing.
+use mathlib.Core.Path.{refl, sym, ap, _∙_}
+use mathlib.Core.Bool.{not}
+use Prim.Native.Nat.{ℕ}
+use borrow.Author.Tests.{eq-eqb, ne-eqb}
+use lib.Dec.{eqb}
+use Rattle.ycbcr_image.specs.Refusals.{oddBad}
 use borrow.Author.Needs.{needs}
 use Rattle.ycbcr_image.proofs.odd_bad.Statement.{statement}
 use Rattle.ycbcr_image.proofs.odd_bad.Tie as tie
-use Rattle.ycbcr_image.proofs.odd_bad.Reads as reads
-use Rattle.ycbcr_image.proofs.odd_bad.Lts as lts
-use Rattle.ycbcr_image.proofs.is_monochrome.Reads as is-monochrome-reads
-use Rattle.ycbcr_image.proofs.num_bits.Reads as num-bits-reads
 
--- src/lib.rt:297:9
 returns : tie.Need-returns
-returns c = ?
+unfolding oddBad
+returns c = rw (eq-eqb _ _ (c .if1 .taken)) refl
 
--- src/lib.rt:299:8
 is-monochrome-requires : tie.Need-is-monochrome-requires
 is-monochrome-requires c κs = search needs
 
--- src/lib.rt:300:16
 num-bits-requires : tie.Need-num-bits-requires
 num-bits-requires c κs = search needs
 
--- src/lib.rt:300:9
 returns-2 : tie.Need-returns-2
-returns-2 c = ?
+unfolding oddBad
+returns-2 c = rw (ne-eqb _ _ (c .before .before .before .if1 .left), sym (c .before .before .is-monochrome .ensures) ∙ c .before .if2 .taken) (ap (λ (n : ℕ). not (eqb n 8)) (c .num-bits .ensures))
 
--- src/lib.rt:292:1
 returns-3 : tie.Need-returns-3
-returns-3 c = ?
+unfolding oddBad
+returns-3 c = rw (ne-eqb _ _ (c .before .before .if1 .left), sym (c .before .is-monochrome .ensures) ∙ c .if2 .left) refl
 
 pub odd-bad-spec : {M : Type 1} → statement M
 odd-bad-spec =

@@ -13,12 +13,12 @@ visible-width-requires : tie.Need-visible-width-requires
 visible-width-requires c κs = search needs
 
 next-multiple-requires : tie.Need-next-multiple-requires
-next-multiple-requires c κs = 
+next-multiple-requires c κs =
     let a = c .before .before .args in
     omega (arith, c .before .mb-width .ensures, c .visible-width .ensures, block-wide-some (sequenceOf (a .s) .form) (a .p) (c .before .before .pre), block-wide-most (sequenceOf (a .s) .form) (a .p), visible-wide-most (sequenceOf (a .s)) (a .p))
 
 row-bytes-requires : tie.Need-row-bytes-requires
-row-bytes-requires c κs = 
+row-bytes-requires c κs =
     let a = c .before .before .before .args in
     omega (arith, c .before .before .mb-width .ensures, c .before .visible-width .ensures, c .next-multiple .ensures, next-most (c .before .visible-width .result) (c .before .before .mb-width .result), block-wide-most (sequenceOf (a .s) .form) (a .p), visible-wide-most (sequenceOf (a .s)) (a .p))
 

@@ -1,42 +1,42 @@
+-- `ycbcr_image::session_bad` meets its contract, test by test. Assumes nothing.
+use mathlib.Core.Path.{refl, sym, ap, _∙_}
+use mathlib.Core.Bool.{not}
+use Prim.Native.Nat.{ℕ}
+use borrow.Author.Tests.{eq-eqb, ne-eqb}
+use lib.Dec.{eqb}
+use Rattle.ycbcr_image.specs.Refusals.{sessionBad}
 use borrow.Author.Needs.{needs}
 use Rattle.ycbcr_image.proofs.session_bad.Statement.{statement}
 use Rattle.ycbcr_image.proofs.session_bad.Tie as tie
-use Rattle.ycbcr_image.proofs.session_bad.Reads as reads
-use Rattle.ycbcr_image.proofs.session_bad.Lts as lts
-use Rattle.ycbcr_image.proofs.chroma_format_idc.Reads as chroma-format-idc-reads
-use Rattle.ycbcr_image.proofs.num_bits.Reads as num-bits-reads
 
--- src/lib.rt:324:9
 returns : tie.Need-returns
-returns c = ?
+unfolding sessionBad
+returns c = rw (ne-eqb _ _ (c .if1 .taken)) refl
 
--- src/lib.rt:327:9
 returns-2 : tie.Need-returns-2
-returns-2 c = ?
+unfolding sessionBad
+returns-2 c = rw (eq-eqb _ _ (c .before .before .before .if1 .left), ne-eqb _ _ (c .if2 .taken)) refl
 
--- src/lib.rt:329:8
 chroma-format-idc-requires : tie.Need-chroma-format-idc-requires
 chroma-format-idc-requires c κs = search needs
 
--- src/lib.rt:329:35
 chroma-format-idc-requires-2 : tie.Need-chroma-format-idc-requires-2
 chroma-format-idc-requires-2 c κs = search needs
 
--- src/lib.rt:330:9
 returns-3 : tie.Need-returns-3
-returns-3 c = ?
+unfolding sessionBad
+returns-3 c = rw (eq-eqb _ _ (c .before .before .before .before .before .before .if1 .left), eq-eqb _ _ (c .before .before .before .if2 .left), ne-eqb _ _ (λ e. c .if3 .taken (c .before .before .chroma-format-idc .ensures ∙ e ∙ sym (c .before .chroma-format-idc2 .ensures)))) refl
 
--- src/lib.rt:332:5
 num-bits-requires : tie.Need-num-bits-requires
 num-bits-requires c κs = search needs
 
--- src/lib.rt:332:24
 num-bits-requires-2 : tie.Need-num-bits-requires-2
 num-bits-requires-2 c κs = search needs
 
--- src/lib.rt:316:1
 returns-4 : tie.Need-returns-4
-returns-4 c = ?
+unfolding sessionBad
+returns-4 c = rw (eq-eqb _ _ (c .before .before .before .before .before .before .before .before .if1 .left), eq-eqb _ _ (c .before .before .before .before .before .if2 .left), eq-eqb _ _ (sym (c .before .before .before .before .chroma-format-idc .ensures) ∙ c .before .before .if3 .left ∙ c .before .before .before .chroma-format-idc2 .ensures))
+    (cc (c .before .num-bits .ensures, c .num-bits2 .ensures))
 
 pub session-bad-spec : {M : Type 1} → statement M
 session-bad-spec =

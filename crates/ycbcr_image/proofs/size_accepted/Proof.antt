@@ -1,44 +1,38 @@
+-- `ycbcr_image::size_accepted` meets its contract, test by test. Assumes nothing.
+use mathlib.Core.Path.{refl, sym, ap, _∙_}
+use mathlib.Core.Bool.{not}
+use Rattle.ycbcr_image.specs.Refusals.{accepted}
 use borrow.Author.Needs.{needs}
 use Rattle.ycbcr_image.proofs.size_accepted.Statement.{statement}
 use Rattle.ycbcr_image.proofs.size_accepted.Tie as tie
-use Rattle.ycbcr_image.proofs.size_accepted.Reads as reads
-use Rattle.ycbcr_image.proofs.size_accepted.Lts as lts
-use Rattle.ycbcr_image.proofs.four_bad.Reads as four-bad-reads
-use Rattle.ycbcr_image.proofs.height_bad.Reads as height-bad-reads
-use Rattle.ycbcr_image.proofs.odd_bad.Reads as odd-bad-reads
-use Rattle.ycbcr_image.proofs.size_bad.Reads as size-bad-reads
 
--- src/lib.rt:339:8
 size-bad-requires : tie.Need-size-bad-requires
 size-bad-requires c κs = search needs
 
--- src/lib.rt:340:9
 returns : tie.Need-returns
-returns c = ?
+unfolding accepted
+returns c = rw (sym (c .before .size-bad .ensures) ∙ c .if1 .taken) refl
 
--- src/lib.rt:342:8
 four-bad-requires : tie.Need-four-bad-requires
 four-bad-requires c κs = search needs
 
--- src/lib.rt:343:9
 returns-2 : tie.Need-returns-2
-returns-2 c = ?
+unfolding accepted
+returns-2 c = rw (sym (c .before .before .before .size-bad .ensures) ∙ c .before .before .if1 .left, sym (c .before .four-bad .ensures) ∙ c .if2 .taken) refl
 
--- src/lib.rt:345:8
 odd-bad-requires : tie.Need-odd-bad-requires
 odd-bad-requires c κs = search needs
 
--- src/lib.rt:346:9
 returns-3 : tie.Need-returns-3
-returns-3 c = ?
+unfolding accepted
+returns-3 c = rw (sym (c .before .before .before .before .before .size-bad .ensures) ∙ c .before .before .before .before .if1 .left, sym (c .before .before .before .four-bad .ensures) ∙ c .before .before .if2 .left, sym (c .before .odd-bad .ensures) ∙ c .if3 .taken) refl
 
--- src/lib.rt:348:6
 height-bad-requires : tie.Need-height-bad-requires
 height-bad-requires c κs = search needs
 
--- src/lib.rt:336:1
 returns-4 : tie.Need-returns-4
-returns-4 c = ?
+unfolding accepted
+returns-4 c = rw (sym (c .before .before .before .before .before .before .size-bad .ensures) ∙ c .before .before .before .before .before .if1 .left, sym (c .before .before .before .before .four-bad .ensures) ∙ c .before .before .before .if2 .left, sym (c .before .before .odd-bad .ensures) ∙ c .before .if3 .left) (ap not (c .height-bad .ensures))
 
 pub size-accepted-spec : {M : Type 1} → statement M
 size-accepted-spec =

@@ -1,23 +1,25 @@
+-- `ycbcr_image::size_bad` meets its contract, test by test. Assumes nothing.
+use mathlib.Core.Path.{refl}
+use borrow.Author.Tests.{eq-eqb, ne-eqb, lt-ltb, le-ltb}
+use Rattle.ycbcr_image.specs.Refusals.{sizeBad}
 use Rattle.ycbcr_image.proofs.size_bad.Statement.{statement}
 use Rattle.ycbcr_image.proofs.size_bad.Tie as tie
-use Rattle.ycbcr_image.proofs.size_bad.Reads as reads
-use Rattle.ycbcr_image.proofs.size_bad.Lts as lts
 
--- src/lib.rt:247:9
 returns : tie.Need-returns
-returns c = ?
+unfolding sizeBad
+returns c = rw (eq-eqb _ _ (c .if1 .taken)) refl
 
--- src/lib.rt:250:9
 returns-2 : tie.Need-returns-2
-returns-2 c = ?
+unfolding sizeBad
+returns-2 c = rw (ne-eqb _ _ (c .before .before .if1 .left), lt-ltb _ _ (c .if2 .taken)) refl
 
--- src/lib.rt:253:9
 returns-3 : tie.Need-returns-3
-returns-3 c = ?
+unfolding sizeBad
+returns-3 c = rw (ne-eqb _ _ (c .before .before .before .before .if1 .left), le-ltb _ _ (c .before .before .if2 .left), eq-eqb _ _ (c .if3 .taken)) refl
 
--- src/lib.rt:243:1
 returns-4 : tie.Need-returns-4
-returns-4 c = ?
+unfolding sizeBad
+returns-4 c = rw (ne-eqb _ _ (c .before .before .before .before .before .if1 .left), le-ltb _ _ (c .before .before .before .if2 .left), ne-eqb _ _ (c .before .if3 .left)) refl
 
 pub size-bad-spec : {M : Type 1} → statement M
 size-bad-spec = tie.close (tie.spec returns returns-2 returns-3 returns-4)

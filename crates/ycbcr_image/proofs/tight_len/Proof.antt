@@ -19,7 +19,7 @@ unfolding tightLength
 returns c = cc (c .before .visible-rows .ensures, c .visible-row-bytes .ensures)
 
 mul-result : tie.Need-mul-result
-mul-result c = 
+mul-result c =
     let a = c .before .before .args in
     let g = fine (a .s .kind) (a .s .depth) (a .s .width) (a .s .height) (c .before .before .pre) in
     omega (arith, returns c, tight-most g (a .p))

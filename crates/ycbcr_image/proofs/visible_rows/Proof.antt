@@ -16,13 +16,13 @@ mb-height-requires : tie.Need-mb-height-requires
 mb-height-requires c κs = search needs
 
 mul-result : tie.Need-mul-result
-mul-result c = 
+mul-result c =
     let a = c .before .before .args in
     let h : c .mb-height .result ≤ 16 = omega (arith, c .mb-height .ensures, block-high-most (sequenceOf (a .s) .form) (a .p)) in
     omega (arith, mul-le-mul-left (a .s .height) h)
 
 returns : tie.Need-returns
-returns c = 
+returns c =
     let a = c .before .before .args in
     ap (λ (n : ℕ). a .s .height * n / 16) (c .mb-height .ensures) ∙ sym (visible-high (sequenceOf (a .s)) (a .p))
 

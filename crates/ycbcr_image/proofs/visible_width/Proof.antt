@@ -16,13 +16,13 @@ mb-width-requires : tie.Need-mb-width-requires
 mb-width-requires c κs = search needs
 
 mul-result : tie.Need-mul-result
-mul-result c = 
+mul-result c =
     let a = c .before .before .args in
     let h : c .mb-width .result ≤ 16 = omega (arith, c .mb-width .ensures, block-wide-most (sequenceOf (a .s) .form) (a .p)) in
     omega (arith, mul-le-mul-left (a .s .width) h)
 
 returns : tie.Need-returns
-returns c = 
+returns c =
     let a = c .before .before .args in
     ap (λ (n : ℕ). a .s .width * n / 16) (c .mb-width .ensures) ∙ sym (visible-wide (sequenceOf (a .s)) (a .p))
 
