@@ -1,12 +1,13 @@
--- What the sizes that 1 to 5 accept have (01, "Pictures accepted"), so that code above forms no number that does not fit.
---     Fine, fine          the facts of an accepted size: macroblock counts, form, crop, and those of each plane
---     FinePlane           of a plane: its padded size is whole macroblocks, its rows are whole bytes, the visible part lies in the padded one, bounds
---     Present, present    of a plane that the kind has: nothing of it is empty
---     tight-most ..       bounds of products: a plane stored tight, the macroblocks, a picture's payload
---     row-in              a row of a block is a row of its plane
+-- What the sizes that 1 to 5 let pass have, so that the code above forms no number that does not fit (01, "Pictures accepted").
+--     Fine, fine         of an accepted size: the form, the counts of macroblocks, the crop, the planes
+--     Known, known       of its form: the chroma format and the depth are known, and a macroblock is its blocks
+--     FinePlane          of a plane: its padded size is whole blocks, its rows are whole bytes, what is visible lies in what is padded, bounds
+--     Present            of a plane that the kind has: nothing of it is empty
+--     tight-most ..      bounds of products: a plane stored tight, the macroblocks, a picture's payload
+--     row-in             a row of a block is a row of its plane
 -- Assumes nothing.
-use mathlib.Core.Path.{_≡_, refl, sym, ap, _∙_}
-use mathlib.Core.Bool.{Bool, true, false, not, _&&_, _||_}
+use mathlib.Core.Path.{_≡_, refl, ap}
+use mathlib.Core.Bool.{true, false, not, _&&_, _||_}
 use mathlib.Core.Logic.{_⊎_, inl, inr}
 use Prim.Native.Nat.{ℕ, zero, suc, _+_, _-_, _*_, _/_, _%_, _≤_, _<_}
 use native.Mathlib.Nat.{mul-le-mul}
@@ -23,6 +24,7 @@ use Rattle.ycbcr_image.specs.Form.{Form, formOf, mono, planes, inPlane, 
 use Rattle.ycbcr_image.specs.Sizes.{Sequence, divCeil, nextMultiple, picWidthInMbs, frameHeightInMbs, visibleWidth, visibleHeight, paddedWidth, paddedHeight, visibleRowBytes, paddedRowBytes, tightLength}
 use Rattle.ycbcr_image.specs.Refusals.{sizeBad, fourBad, oddBad, heightBad, accepted}
 
+-- plane p, be it there or not; in monochrome Cb and Cr are empty
 pub record FinePlane (q : Sequence) (p : ℕ) : Type 0 where
   pub wide : paddedWidth q p ≡ picWidthInMbs q * blockWidth (q .form) p
   pub high : paddedHeight q p ≡ frameHeightInMbs q * blockHeight (q .form) p
@@ -34,7 +36,9 @@ pub record FinePlane (q : Sequence) (p : ℕ) : Type 0 where
   pub wide-most : paddedWidth q p ≤ 16384
   pub high-most : paddedHeight q p ≤ 16384
   pub row-most : paddedRowBytes q p ≤ 24576
+  pub block-row-most : blockRowBytes (q .form) p ≤ 24
 
+-- plane p, where it is there
 pub record Present (q : Sequence) (p : ℕ) : Type 0 where
   pub block-wide : 8 ≤ blockWidth (q .form) p
   pub block-high : 8 ≤ blockHeight (q .form) p
@@ -43,11 +47,14 @@ pub record Present (q : Sequence) (p : ℕ) : Type 0 where
   pub high : 1 ≤ visibleHeight q p
   pub row : 1 ≤ visibleRowBytes q p
 
+-- a form that the code's types can say
 pub record Known (f : Form) : Type 0 where
   pub chroma : f .chroma ≤ 1
   pub depth : (f .depth ≡ 8) ⊎ (f .depth ≡ 12)
   pub mb-most : mbBytes f ≤ 576
+  pub mb-blocks : mbBytes f ≡ blockBytes f 0 + (blockBytes f 1 + blockBytes f 2)
 
+-- a size that passes; units-x to crop-y: what is visible and what is cropped are whole crop units
 pub record Fine (q : Sequence) : Type 0 where
   pub known : Known (q .form)
   pub width-low : 1 ≤ q .width
@@ -58,6 +65,8 @@ pub record Fine (q : Sequence) : Type 0 where
   pub across-high : picWidthInMbs q ≤ 1024
   pub down-low : 1 ≤ frameHeightInMbs q
   pub down-high : frameHeightInMbs q ≤ 1024
+  pub units-x : q .width % cropUnitX (q .form) ≡ 0
+  pub units-y : q .height % cropUnitY (q .form) ≡ 0
   pub crop-x : (paddedWidth q 0 - q .width) % cropUnitX (q .form) ≡ 0
   pub crop-y : (paddedHeight q 0 - q .height) % cropUnitY (q .form) ≡ 0
   pub plane : (p : ℕ) → FinePlane q p
@@ -119,13 +128,14 @@ in-present Mono d w h (suc p) g l = absurd (omega arith)
 in-present Colour Depth8 w h (suc p) g l = omega (arith, g .odd refl, g .high refl)
 in-present Colour Depth12 w h (suc p) g l = omega (arith, g .odd refl, g .high refl)
 
-known : (k : Kind) (d : BitDepth) → Known (formOf k d)
+pub known : (k : Kind) (d : BitDepth) → Known (formOf k d)
 unfolding mono inPlane subWidthC subHeightC blockWidth blockHeight blockRowBytes bytesOf blockBytes mbBytes
-known Mono Depth8 = record { chroma = omega arith; depth = inl refl; mb-most = omega arith }
-known Mono Depth12 = record { chroma = omega arith; depth = inr refl; mb-most = omega arith }
-known Colour Depth8 = record { chroma = omega arith; depth = inl refl; mb-most = omega arith }
-known Colour Depth12 = record { chroma = omega arith; depth = inr refl; mb-most = omega arith }
+known Mono Depth8 = record { chroma = omega arith; depth = inl refl; mb-most = omega arith; mb-blocks = omega arith }
+known Mono Depth12 = record { chroma = omega arith; depth = inr refl; mb-most = omega arith; mb-blocks = omega arith }
+known Colour Depth8 = record { chroma = omega arith; depth = inl refl; mb-most = omega arith; mb-blocks = omega arith }
+known Colour Depth12 = record { chroma = omega arith; depth = inr refl; mb-most = omega arith; mb-blocks = omega arith }
 
+-- every session or picture that passes 1, 3, 4 and 5
 pub fine : (k : Kind) (d : BitDepth) (w h : ℕ) → accepted (record { width = w; height = h; form = formOf k d }) ≡ true → Fine (record { width = w; height = h; form = formOf k d })
 unfolding mono inPlane subWidthC subHeightC divCeil nextMultiple picWidthInMbs frameHeightInMbs visibleWidth visibleHeight paddedWidth paddedHeight cropUnitX cropUnitY blockWidth blockHeight
 fine k d w h t =
@@ -140,17 +150,19 @@ fine k d w h t =
       across-high = omega arith;
       down-low = omega arith;
       down-high = omega arith;
-      crop-x = across k g;
-      crop-y = down k g;
+      units-x = across k g .0;
+      units-y = down k g .0;
+      crop-x = across k g .1;
+      crop-y = down k g .1;
       plane = λ p. in-plane k d w h p g;
       present = λ p. in-present k d w h p g;
     }
   where
-    across : (k : Kind) → Sound (record { width = w; height = h; form = formOf k d }) → (nextMultiple w 16 - w) % cropUnitX (formOf k d) ≡ 0
+    across : (k : Kind) → Sound (record { width = w; height = h; form = formOf k d }) → (w % cropUnitX (formOf k d) ≡ 0) × ((nextMultiple w 16 - w) % cropUnitX (formOf k d) ≡ 0)
     across Mono g = omega arith
     across Colour g = omega (arith, g .odd refl)
 
-    down : (k : Kind) → Sound (record { width = w; height = h; form = formOf k d }) → (nextMultiple h 16 - h) % cropUnitY (formOf k d) ≡ 0
+    down : (k : Kind) → Sound (record { width = w; height = h; form = formOf k d }) → (h % cropUnitY (formOf k d) ≡ 0) × ((nextMultiple h 16 - h) % cropUnitY (formOf k d) ≡ 0)
     down Mono g = omega arith
     down Colour g = omega (arith, g .high refl)
 
@@ -177,5 +189,6 @@ payload-most {q} g =
 pub row-some : {q : Sequence} → Fine q → (p : ℕ) → p < planes (q .form) → 0 < paddedRowBytes q p
 row-some g p l = omega (arith, g .plane p .visible-row, g .present p l .row)
 
+-- row y of the block in macroblock row my
 pub row-in : {q : Sequence} → Fine q → (p my y : ℕ) → my < frameHeightInMbs q → y < blockHeight (q .form) p → my * blockHeight (q .form) p + y < paddedHeight q p
 row-in g p my y a b = rw (g .plane p .high) (digits-lt a b)

@@ -4,3 +4,4 @@ pub mod Sizes
 pub mod Refusals
 pub mod Accepted
 pub mod Passed
+pub mod Cases

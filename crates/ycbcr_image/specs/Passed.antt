@@ -1,25 +1,25 @@
--- What the refusals leave: their order, and what a picture that passes them has.
---     first-none ..       the refusal that is tested first, and the later one where it is none
---     Lent                what 7 and 8 leave: the stride holds a padded row, the plane the padded rows
---     inside              so every row of every block lies inside the plane
---     Passed, passed      what passes the refusals of a start call, and of a next call
---     mono-alone          monochrome looks at no chroma plane
---     stride-zero         stride 0 falls to 7
+-- What the refusals leave.
+--     first-none, first-some       which of two refusals is given
+--     shape-accepted               a picture that passes 1 to 5 has an accepted size
+--     Lent                         what 7 and 8 leave: a stride holds a padded row, and the plane the padded rows
+--     inside                       so every row of every block lies inside its plane; `across` and `down` say it of whole rows
+--     Passed, passed, passed-next  what passes the refusals of a start call, and of a next call
+--     mono-alone                   monochrome looks at no chroma plane
+--     stride-zero                  stride 0 falls to 7
 -- Assumes nothing.
-use mathlib.Core.Path.{_≡_, refl, sym, ap, _∙_}
-use mathlib.Core.Bool.{Bool, true, false, cond, not, _&&_, _||_}
+use mathlib.Core.Path.{_≡_, refl, sym, _∙_}
+use mathlib.Core.Bool.{Bool, true, false, cond, _||_}
 use Prim.Native.Nat.{ℕ, zero, suc, _+_, _*_, _/_, _≤_, _<_}
-use native.Mathlib.Nat.{mul-le-mul-right, div-mul-le-self, suc-mul}
+use native.Mathlib.Nat.{mul-le-mul-right, div-mul-le-self, suc-mul, mul-assoc}
 use native.Mathlib.Omega.{arith}
 use borrow.Author.Tests.{ltb-false, eqb-true, lt-ltb, not-false, ne-eqb}
-use lib.Dec.{eqb, ltb}
 use Rattle.ycbcr_image.specs.declared.DataPlane.{DataPlane}
 use Rattle.ycbcr_image.specs.declared.YCbCrImage.{YCbCrImage}
 use Rattle.ycbcr_image.specs.declared.Kind.the-variants.{Mono}
 use Rattle.ycbcr_image.specs.Tests.{or-left, or-right}
-use Rattle.ycbcr_image.specs.Form.{mono, planes, blockRowBytes}
-use Rattle.ycbcr_image.specs.Sizes.{Sequence, picWidthInMbs, paddedRowBytes, paddedHeight}
-use Rattle.ycbcr_image.specs.Refusals.{planeOf, ofPicture, sizeBad, depthsBad, fourBad, oddBad, heightBad, sessionBad, accepted, strideBad, rowsBad, sizesRefusal, planeRefusal, first, chromaRefusal, planesRefusal, refusalOf, refusalNext}
+use Rattle.ycbcr_image.specs.Form.{mono, planes, blockHeight, blockRowBytes}
+use Rattle.ycbcr_image.specs.Sizes.{Sequence, picWidthInMbs, frameHeightInMbs, paddedRowBytes, paddedHeight}
+use Rattle.ycbcr_image.specs.Refusals.{planeOf, ofPicture, sizeBad, depthsBad, fourBad, oddBad, heightBad, sessionBad, accepted, strideBad, rowsBad, shapeRefusal, planeRefusal, first, chromaRefusal, planesRefusal, differ, refusalOf, refusalNext}
 use Rattle.ycbcr_image.specs.Accepted.{Fine, fine, row-some}
 
 pub first-none : (n later : ℕ) → n ≡ 0 → first n later ≡ later
@@ -40,9 +40,9 @@ row-none : (b : Bool) (n later : ℕ) → cond b (suc n) later ≡ 0 → (b ≡ 
 row-none true n later e = absurd (omega arith)
 row-none false n later e = (refl, e)
 
-pub sizes-accepted : (i : YCbCrImage) → sizesRefusal i ≡ 0 → accepted (ofPicture i) ≡ true
-unfolding sizesRefusal accepted
-sizes-accepted i e =
+pub shape-accepted : (i : YCbCrImage) → shapeRefusal i ≡ 0 → accepted (ofPicture i) ≡ true
+unfolding shapeRefusal accepted
+shape-accepted i e =
     let a = row-none (sizeBad (ofPicture i)) _ _ e in
     let b = row-none (depthsBad i) _ _ (a .1) in
     let c = row-none (fourBad (ofPicture i)) _ _ (b .1) in
@@ -50,6 +50,7 @@ sizes-accepted i e =
     let f = row-none (heightBad (ofPicture i)) _ _ (d .1) in
     rw (a .0, c .0, d .0, f .0) refl
 
+-- plane p of a picture of the sequence q
 pub record Lent (q : Sequence) (p : ℕ) (a : DataPlane) : Type 0 where
   pub row : paddedRowBytes q p ≤ a .stride
   pub rows : paddedHeight q p * a .stride ≤ a .len
@@ -71,6 +72,14 @@ pub inside : {q : Sequence} {p : ℕ} {a : DataPlane} → Fine q → Lent q p a 
 inside {q} {p} {a} g l r x h k =
     omega (arith, g .plane p .row, l .row, l .rows, suc-mul r (a .stride), suc-mul x (blockRowBytes (q .form) p), mul-le-mul-right (a .stride) h, mul-le-mul-right (blockRowBytes (q .form) p) k)
 
+-- the padded rows of all macroblocks, and the blocks of a row
+pub down : {q : Sequence} {p : ℕ} {a : DataPlane} → Fine q → Lent q p a → frameHeightInMbs q * (blockHeight (q .form) p * a .stride) ≤ a .len
+down {q} {p} {a} g l = rw (← mul-assoc (frameHeightInMbs q) (blockHeight (q .form) p) (a .stride), ← g .plane p .high) (l .rows)
+
+pub across : {q : Sequence} {p : ℕ} {a : DataPlane} → Fine q → Lent q p a → picWidthInMbs q * blockRowBytes (q .form) p ≤ a .stride
+across {q} {p} {a} g l = rw (← g .plane p .row) (l .row)
+
+-- an accepted picture: each plane that its kind has is lent whole
 pub record Passed (i : YCbCrImage) : Type 0 where
   pub sizes : accepted (ofPicture i) ≡ true
   pub fine : Fine (ofPicture i)
@@ -81,10 +90,10 @@ in-colour : (b : Bool) (p : ℕ) → suc p < cond b 1 3 → (b ≡ false) × (p 
 in-colour true p h = absurd (omega arith)
 in-colour false p h = (refl, omega arith)
 
-pass : (i : YCbCrImage) → sizesRefusal i ≡ 0 → planesRefusal i ≡ 0 → Passed i
+pass : (i : YCbCrImage) → shapeRefusal i ≡ 0 → planesRefusal i ≡ 0 → Passed i
 unfolding planesRefusal chromaRefusal planes
 pass i s l =
-    let t : accepted (ofPicture i) ≡ true = sizes-accepted i s in
+    let t : accepted (ofPicture i) ≡ true = shape-accepted i s in
     record { sizes = t; fine = fine (i .kind) (i .y .depth) (i .width) (i .height) t; lent = each }
   where
     chroma : (p : ℕ) → suc p < planes (ofPicture i .form) → chromaRefusal i ≡ 0
@@ -100,16 +109,17 @@ pub passed : (i : YCbCrImage) → refusalOf i ≡ 0 → Passed i
 unfolding refusalOf
 passed i e = let n = neither _ _ e in pass i (n .0) (n .1)
 
+-- a picture that 6 does not refuse is the session's
 pub same : (s q : Sequence) → sessionBad s q ≡ false → s ≡ q
 unfolding sessionBad
 same s q e =
-    let l = or-left (not (eqb (q .width) (s .width)) || not (eqb (q .height) (s .height))) _ e in
-    let r = or-right (not (eqb (q .width) (s .width)) || not (eqb (q .height) (s .height))) _ e in
+    let l = or-left (differ (q .width) (s .width) || differ (q .height) (s .height)) _ e in
+    let r = or-right (differ (q .width) (s .width) || differ (q .height) (s .height)) _ e in
     equal
     (eqb-true _ _ (not-false _ (or-left _ _ l)))
-    (eqb-true _ _ (not-false _ (or-right (not (eqb (q .width) (s .width))) _ l)))
+    (eqb-true _ _ (not-false _ (or-right (differ (q .width) (s .width)) _ l)))
     (eqb-true _ _ (not-false _ (or-left _ _ r)))
-    (eqb-true _ _ (not-false _ (or-right (not (eqb (q .form .chroma) (s .form .chroma))) _ r)))
+    (eqb-true _ _ (not-false _ (or-right (differ (q .form .chroma) (s .form .chroma)) _ r)))
   where
     of : ℕ → ℕ → ℕ → ℕ → Sequence
     of w h c d = record { width = w; height = h; form = record { chroma = c; depth = d } }
@@ -124,10 +134,12 @@ passed-next s i e =
     let m = row-none (sessionBad s (ofPicture i)) _ _ (n .1) in
     (same s (ofPicture i) (m .0), pass i (n .0) (m .1))
 
-pub mono-alone : (w h : ℕ) (y cb cr cb′ cr′ : DataPlane)
-    → refusalOf (record { width = w; height = h; kind = Mono; y = y; cb = cb; cr = cr }) ≡ refusalOf (record { width = w; height = h; kind = Mono; y = y; cb = cb′; cr = cr′ })
-unfolding refusalOf sizesRefusal planesRefusal depthsBad mono
-mono-alone w h y cb cr cb′ cr′ = refl
+abbrev pub black : ℕ → ℕ → DataPlane → DataPlane → DataPlane → YCbCrImage
+black w h y cb cr = record { width = w; height = h; kind = Mono; y = y; cb = cb; cr = cr }
+
+pub mono-alone : (w h : ℕ) (y cb cr cb′ cr′ : DataPlane) → (refusalOf (black w h y cb cr) ≡ refusalOf (black w h y cb′ cr′)) × ((s : Sequence) → refusalNext s (black w h y cb cr) ≡ refusalNext s (black w h y cb′ cr′))
+unfolding refusalOf refusalNext shapeRefusal planesRefusal depthsBad mono
+mono-alone w h y cb cr cb′ cr′ = (refl, λ s. refl)
 
 pub stride-zero : {q : Sequence} → Fine q → (p : ℕ) → p < planes (q .form) → (a : DataPlane) → a .stride ≡ 0 → strideBad q p a ≡ true
 unfolding strideBad

@@ -1,21 +1,22 @@
--- The writer's refusals 1 to 8, each in the words of its row of 01's table, and the refusal of a call as a function of the picture's numbers.
---     sessionOf, ofPicture    the session that a picture begins, and its numbers
---     planeOf                 a picture's plane by its number
---     sizeBad ..              the rows of the table
---     accepted                the sizes and kinds that no row refuses
---     refusalOf               the refusal of a start call, 0 where there is none
---     refusalNext             that of a next call
--- Nothing is asked of the numbers: lengths and strides are any. Assumes nothing.
+-- The writer's refusals 1 to 8 (01, "Writer's refusals"), each in the words of its row of the table, and the refusal of a call as a function of the
+-- picture's numbers, whatever they are.
+--     sessionOf, ofPicture     the session that a picture begins, and what it says
+--     planeOf                  a picture's plane by its number
+--     sizeBad ..               the rows of the table, with `differ` and `odd`
+--     accepted                 the sizes and kinds that the rows let pass
+--     first                    of two refusals the one that is tested first
+--     refusalOf, refusalNext   the refusal of a start call and of a next call, 0 where there is none
+-- Assumes nothing.
 use mathlib.Core.Bool.{Bool, cond, not, _&&_, _||_}
 use Prim.Native.Nat.{ℕ, zero, suc, _/_, _%_}
 use lib.Dec.{eqb, ltb}
 use Rattle.ycbcr_image.specs.declared.DataPlane.{DataPlane}
 use Rattle.ycbcr_image.specs.declared.Session.{Session}
 use Rattle.ycbcr_image.specs.declared.YCbCrImage.{YCbCrImage}
-use Rattle.ycbcr_image.specs.Form.{depthOf, mono}
+use Rattle.ycbcr_image.specs.Form.{depthOf, mono, colour}
 use Rattle.ycbcr_image.specs.Sizes.{Sequence, sequenceOf, paddedRowBytes, paddedHeight}
 
--- its depth is that of Y: in monochrome there is no other, and in colour 2 has them equal
+-- the depth is that of Y: in monochrome there is no other, and colour that passes 2 has one
 abbrev pub sessionOf : YCbCrImage → Session
 sessionOf i = record { width = i .width; height = i .height; kind = i .kind; depth = i .y .depth }
 
@@ -28,33 +29,38 @@ planeOf i zero = i .y
 planeOf i (suc zero) = i .cb
 planeOf i (suc (suc p)) = i .cr
 
+abbrev pub differ : ℕ → ℕ → Bool
+differ a b = not (eqb a b)
+
+abbrev pub odd : ℕ → Bool
+odd n = differ (n % 2) 0
+
 -- 1: width or height is 0 or over 16,384
 unfoldable pub sizeBad : Sequence → Bool
 sizeBad q = (eqb (q .width) 0 || ltb 16384 (q .width)) || (eqb (q .height) 0 || ltb 16384 (q .height))
 
 -- 2: colour and the three depths differ
 unfoldable pub depthsBad : YCbCrImage → Bool
-depthsBad i = not (mono (ofPicture i .form)) && not (eqb (depthOf (i .y .depth)) (depthOf (i .cb .depth)) && eqb (depthOf (i .y .depth)) (depthOf (i .cr .depth)))
+depthsBad i = colour (ofPicture i .form) && (differ (depthOf (i .y .depth)) (depthOf (i .cb .depth)) || differ (depthOf (i .y .depth)) (depthOf (i .cr .depth)))
 
 -- 3: colour, 12 bits, width not a multiple of 4
 unfoldable pub fourBad : Sequence → Bool
-fourBad q = not (mono (q .form)) && (eqb (q .form .depth) 12 && not (eqb (q .width % 4) 0))
+fourBad q = colour (q .form) && (eqb (q .form .depth) 12 && differ (q .width % 4) 0)
 
 -- 4: width odd, unless mono 8
 unfoldable pub oddBad : Sequence → Bool
-oddBad q = not (eqb (q .width % 2) 0) && not (mono (q .form) && eqb (q .form .depth) 8)
+oddBad q = odd (q .width) && not (mono (q .form) && eqb (q .form .depth) 8)
 
 -- 5: colour and height odd
 unfoldable pub heightBad : Sequence → Bool
-heightBad q = not (mono (q .form)) && not (eqb (q .height % 2) 0)
+heightBad q = colour (q .form) && odd (q .height)
 
--- 6: width, height, colour or depth is not the session's
+-- 6: width, height, colour or depth is not the session's; s is the session
 unfoldable pub sessionBad : Sequence → Sequence → Bool
 sessionBad s q =
-    (not (eqb (q .width) (s .width)) || not (eqb (q .height) (s .height)))
-    || (not (eqb (q .form .chroma) (s .form .chroma)) || not (eqb (q .form .depth) (s .form .depth)))
+    (differ (q .width) (s .width) || differ (q .height) (s .height)) || (differ (q .form .chroma) (s .form .chroma) || differ (q .form .depth) (s .form .depth))
 
--- the sizes and kinds that a sequence parameter set may have: no picture is refused with 1, 3, 4 or 5 for them
+-- the sizes and kinds that 1, 3, 4 and 5 let pass: those that a sequence parameter set may say
 unfoldable pub accepted : Sequence → Bool
 accepted q = not (sizeBad q || (fourBad q || (oddBad q || heightBad q)))
 
@@ -67,8 +73,8 @@ unfoldable pub rowsBad : Sequence → ℕ → DataPlane → Bool
 rowsBad q p a = ltb (a .len / a .stride) (paddedHeight q p)
 
 -- 1 to 5, in this order
-unfoldable pub sizesRefusal : YCbCrImage → ℕ
-sizesRefusal i =
+unfoldable pub shapeRefusal : YCbCrImage → ℕ
+shapeRefusal i =
     cond (sizeBad (ofPicture i)) 1
     (cond (depthsBad i) 2
     (cond (fourBad (ofPicture i)) 3
@@ -83,7 +89,7 @@ planeRefusal q p a =
     (cond (rowsBad q p a) 8
     0)
 
--- the refusal n if it is one, else what is tested after it
+-- the refusal n, or where it is none the one that is tested later
 unfoldable pub first : ℕ → ℕ → ℕ
 first n later = cond (eqb n 0) later n
 
@@ -100,9 +106,10 @@ planesRefusal i =
     (cond (mono (ofPicture i .form)) 0
     (chromaRefusal i))
 
+-- a start call has no 6
 unfoldable pub refusalOf : YCbCrImage → ℕ
-refusalOf i = first (sizesRefusal i) (planesRefusal i)
+refusalOf i = first (shapeRefusal i) (planesRefusal i)
 
--- s: the session
+-- 6 stands between 5 and 7; s is the session
 unfoldable pub refusalNext : Sequence → YCbCrImage → ℕ
-refusalNext s i = first (sizesRefusal i) (cond (sessionBad s (ofPicture i)) 6 (planesRefusal i))
+refusalNext s i = first (shapeRefusal i) (cond (sessionBad s (ofPicture i)) 6 (planesRefusal i))

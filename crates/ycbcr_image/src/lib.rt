@@ -2,10 +2,10 @@
 // writer's refusals 1 to 8. The planes' bytes stay with the caller. Planes are numbered: 0 is Y, 1 Cb, 2 Cr.
 ghost use mathlib.Core.Path.{_≡_};
 ghost use mathlib.Core.Bool.{true};
-ghost use Prim.Native.Nat.{_+_, _*_, _^_, _<_, _≤_};
-ghost use Rattle.ycbcr_image.specs.Form.{depthOf, chromaOf, mono, planes, inPlane, bytesOf, subWidthC, subHeightC, blockWidth, blockHeight, blockRowBytes, cropUnitX, cropUnitY};
-ghost use Rattle.ycbcr_image.specs.Sizes.{sequenceOf, divCeil, nextMultiple, picWidthInMbs, frameHeightInMbs, visibleWidth, visibleHeight, paddedWidth, paddedHeight, visibleRowBytes, paddedRowBytes, tightLength};
-ghost use Rattle.ycbcr_image.specs.Refusals.{sessionOf, ofPicture, sizeBad, depthsBad, fourBad, oddBad, heightBad, sessionBad, accepted, strideBad, rowsBad, sizesRefusal, planeRefusal, chromaRefusal, planesRefusal, refusalOf, refusalNext};
+ghost use Prim.Native.Nat.{_+_, _^_, _<_};
+ghost use Rattle.ycbcr_image.specs.Form.{depthOf, chromaOf, mono, planes, bytesOf, blockWidth, blockHeight, blockRowBytes, mbBytes, cropUnitX, cropUnitY};
+ghost use Rattle.ycbcr_image.specs.Sizes.{sequenceOf, divCeil, nextMultiple, picWidthInMbs, frameHeightInMbs, visibleWidth, visibleHeight, paddedHeight, visibleRowBytes, paddedRowBytes, tightLength};
+ghost use Rattle.ycbcr_image.specs.Refusals.{sessionOf, ofPicture, sizeBad, depthsBad, fourBad, oddBad, heightBad, sessionBad, accepted, shapeRefusal, planeRefusal, chromaRefusal, planesRefusal, refusalOf, refusalNext};
 
 // The bits of a sample.
 pub enum BitDepth {
@@ -158,6 +158,13 @@ pub fn block_row_bytes(s: Session, p: u32) -> usize
     row_bytes(s, mb_width(s, p))
 }
 
+// The bytes of a macroblock's samples.
+pub fn mb_bytes(s: Session) -> usize
+    ensures { λ r. ⌜ r ≡ mbBytes (sequenceOf s .form) ⌝ }
+{
+    row_bytes(s, 256 + 2 * (mb_width(s, 1) * mb_height(s, 1)))
+}
+
 // Sizes.
 
 fn div_ceil(a: usize, b: usize) -> usize
@@ -224,7 +231,8 @@ pub fn padded_row_bytes(s: Session, p: u32) -> usize
 {
     let b = mb_width(s, p);
     let n = visible_width(s, p);
-    row_bytes(s, next_multiple(n, b))
+    let m = next_multiple(n, b);
+    row_bytes(s, m)
 }
 
 // Its rows with the padding.
@@ -366,8 +374,8 @@ fn check_sizes(s: Session, p: u32, a: DataPlane) -> u32
 }
 
 // 1 to 5.
-fn check_size(i: YCbCrImage) -> u32
-    ensures { λ r. ⌜ r ≡ sizesRefusal i ⌝ }
+fn check_shape(i: YCbCrImage) -> u32
+    ensures { λ r. ⌜ r ≡ shapeRefusal i ⌝ }
 {
     let s = session_of(i);
     let size = size_bad(s);
@@ -427,9 +435,9 @@ fn check_planes(i: YCbCrImage) -> u32
 pub fn check_start(i: YCbCrImage) -> u32
     ensures { λ r. ⌜ r ≡ refusalOf i ⌝ }
 {
-    let size = check_size(i);
-    if size != 0 {
-        return size;
+    let shape = check_shape(i);
+    if shape != 0 {
+        return shape;
     }
     check_planes(i)
 }
@@ -438,11 +446,12 @@ pub fn check_start(i: YCbCrImage) -> u32
 pub fn check_next(held: Session, i: YCbCrImage) -> u32
     ensures { λ r. ⌜ r ≡ refusalNext (sequenceOf held) i ⌝ }
 {
-    let size = check_size(i);
-    if size != 0 {
-        return size;
+    let shape = check_shape(i);
+    let other = session_bad(held, session_of(i));
+    if shape != 0 {
+        return shape;
     }
-    if session_bad(held, session_of(i)) {
+    if other {
         return 6;
     }
     check_planes(i)

@@ -1,9 +1,6 @@
 -- `ycbcr_image::depths_bad` meets its contract, test by test. Assumes nothing.
 use mathlib.Core.Path.{_≡_, refl, sym, ap, _∙_}
-use mathlib.Core.Bool.{Bool, not}
-use Prim.Native.Nat.{ℕ}
 use borrow.Author.Tests.{eq-eqb, ne-eqb}
-use lib.Dec.{eqb}
 use Rattle.ycbcr_image.specs.declared.Session.{Session}
 use Rattle.ycbcr_image.specs.Form.{mono}
 use Rattle.ycbcr_image.specs.Sizes.{sequenceOf}

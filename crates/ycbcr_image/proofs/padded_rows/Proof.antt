@@ -15,7 +15,8 @@ visible-rows-requires c κs = search needs
 next-multiple-requires : tie.Need-next-multiple-requires
 next-multiple-requires c κs =
     let a = c .before .before .args in
-    omega (arith, c .before .mb-height .ensures, c .visible-rows .ensures, block-high-some (sequenceOf (a .s) .form) (a .p) (c .before .before .pre), block-high-most (sequenceOf (a .s) .form) (a .p), visible-high-most (sequenceOf (a .s)) (a .p))
+    let f = sequenceOf (a .s) .form in
+    omega (arith, c .before .mb-height .ensures, c .visible-rows .ensures, block-high-some f (a .p) (c .before .before .pre), block-high-most f (a .p), visible-high-most (sequenceOf (a .s)) (a .p))
 
 returns : tie.Need-returns
 unfolding paddedHeight

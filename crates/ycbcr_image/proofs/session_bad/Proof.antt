@@ -1,9 +1,6 @@
 -- `ycbcr_image::session_bad` meets its contract, test by test. Assumes nothing.
-use mathlib.Core.Path.{refl, sym, ap, _∙_}
-use mathlib.Core.Bool.{not}
-use Prim.Native.Nat.{ℕ}
+use mathlib.Core.Path.{refl, sym, _∙_}
 use borrow.Author.Tests.{eq-eqb, ne-eqb}
-use lib.Dec.{eqb}
 use Rattle.ycbcr_image.specs.Refusals.{sessionBad}
 use borrow.Author.Needs.{needs}
 use Rattle.ycbcr_image.proofs.session_bad.Statement.{statement}

@@ -1,8 +1,6 @@
 -- `ycbcr_image::tight_len` meets its contract: the product is small. Assumes nothing.
-use mathlib.Core.Path.{_≡_}
-use Prim.Native.Nat.{_*_}
 use native.Mathlib.Omega.{arith}
-use Rattle.ycbcr_image.specs.Sizes.{sequenceOf, tightLength}
+use Rattle.ycbcr_image.specs.Sizes.{tightLength}
 use Rattle.ycbcr_image.specs.Accepted.{fine, tight-most}
 use borrow.Author.Needs.{needs}
 use Rattle.ycbcr_image.proofs.tight_len.Statement.{statement}

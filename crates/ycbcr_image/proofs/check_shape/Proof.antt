@@ -1,12 +1,12 @@
--- `ycbcr_image::check_size` meets its contract: the tests are those of the table, and they are answered in its order. Assumes nothing.
+-- `ycbcr_image::check_shape` meets its contract: the tests are those of the table, and they are answered in its order. Assumes nothing.
 use mathlib.Core.Path.{_≡_, refl, sym, ap, _∙_}
 use mathlib.Core.Bool.{Bool}
 use Rattle.ycbcr_image.specs.declared.Session.{Session}
 use Rattle.ycbcr_image.specs.Sizes.{Sequence, sequenceOf}
-use Rattle.ycbcr_image.specs.Refusals.{ofPicture, sizeBad, depthsBad, fourBad, oddBad, heightBad, sizesRefusal}
+use Rattle.ycbcr_image.specs.Refusals.{ofPicture, sizeBad, depthsBad, fourBad, oddBad, heightBad, shapeRefusal}
 use borrow.Author.Needs.{needs}
-use Rattle.ycbcr_image.proofs.check_size.Statement.{statement}
-use Rattle.ycbcr_image.proofs.check_size.Tie as tie
+use Rattle.ycbcr_image.proofs.check_shape.Statement.{statement}
+use Rattle.ycbcr_image.proofs.check_shape.Tie as tie
 
 session-of-requires : tie.Need-session-of-requires
 session-of-requires c κs = search needs
@@ -49,31 +49,31 @@ height : (c : tie.After-height-bad) → heightBad (ofPicture (S c .before .args 
 height c = of (S c) heightBad _ (c .height-bad .ensures)
 
 returns : tie.Need-returns
-unfolding sizesRefusal
+unfolding shapeRefusal
 returns c = rw (size (c .before) ∙ c .if1 .taken) refl
 
 returns-2 : tie.Need-returns-2
-unfolding sizesRefusal
+unfolding shapeRefusal
 returns-2 c = rw (size (c .before .before) ∙ c .before .if1 .left, depths (c .before .before) ∙ c .if2 .taken) refl
 
 returns-3 : tie.Need-returns-3
-unfolding sizesRefusal
+unfolding shapeRefusal
 returns-3 c = rw (size (c .before .before .before) ∙ c .before .before .if1 .left, depths (c .before .before .before) ∙ c .before .if2 .left, four (c .before .before .before) ∙ c .if3 .taken) refl
 
 returns-4 : tie.Need-returns-4
-unfolding sizesRefusal
+unfolding shapeRefusal
 returns-4 c = rw (size (c .before .before .before .before) ∙ c .before .before .before .if1 .left, depths (c .before .before .before .before) ∙ c .before .before .if2 .left, four (c .before .before .before .before) ∙ c .before .if3 .left, odd (c .before .before .before .before) ∙ c .if4 .taken) refl
 
 returns-5 : tie.Need-returns-5
-unfolding sizesRefusal
+unfolding shapeRefusal
 returns-5 c = rw (size (c .before .before .before .before .before) ∙ c .before .before .before .before .if1 .left, depths (c .before .before .before .before .before) ∙ c .before .before .before .if2 .left, four (c .before .before .before .before .before) ∙ c .before .before .if3 .left, odd (c .before .before .before .before .before) ∙ c .before .if4 .left, height (c .before .before .before .before .before) ∙ c .if5 .taken) refl
 
 returns-6 : tie.Need-returns-6
-unfolding sizesRefusal
+unfolding shapeRefusal
 returns-6 c = rw (size (c .before .before .before .before .before) ∙ c .before .before .before .before .if1 .left, depths (c .before .before .before .before .before) ∙ c .before .before .before .if2 .left, four (c .before .before .before .before .before) ∙ c .before .before .if3 .left, odd (c .before .before .before .before .before) ∙ c .before .if4 .left, height (c .before .before .before .before .before) ∙ c .if5 .left) refl
 
-pub check-size-spec : {M : Type 1} → statement M
-check-size-spec =
+pub check-shape-spec : {M : Type 1} → statement M
+check-shape-spec =
     tie.close
     (tie.spec
     session-of-requires
