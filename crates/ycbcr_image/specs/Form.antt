@@ -1,5 +1,5 @@
 -- The form of a picture: what fixes the layout of its samples beside its size, and what follows from it (ITU-T H.264 6.2 and 7.4.2.1.1).
---     chromaOf, depthOf         the numbers of the code's `Kind` and `BitDepth`
+--     chromaOf, depthOf         the numbers of the code's `Kind` and `BitDepth`, which tell them apart (kind-one, depth-one)
 --     Form, formOf k d          chroma_format_idc and the bits of a sample
 --     mono, colour              whether there is no chroma, or some
 --     planes                    how many planes there are. They are numbered: 0 is Y, 1 Cb, 2 Cr. A plane that a monochrome picture has not is empty: its sizes are 0
@@ -30,6 +30,19 @@ chromaOf Colour = 1
 abbrev pub depthOf : BitDepth → ℕ
 depthOf Depth8 = 8
 depthOf Depth12 = 12
+
+-- the numbers tell the kinds and the depths apart
+pub kind-one : (k l : Kind) → chromaOf k ≡ chromaOf l → k ≡ l
+kind-one Mono Mono e = refl
+kind-one Mono Colour e = absurd (omega arith)
+kind-one Colour Mono e = absurd (omega arith)
+kind-one Colour Colour e = refl
+
+pub depth-one : (d e : BitDepth) → depthOf d ≡ depthOf e → d ≡ e
+depth-one Depth8 Depth8 h = refl
+depth-one Depth8 Depth12 h = absurd (omega arith)
+depth-one Depth12 Depth8 h = absurd (omega arith)
+depth-one Depth12 Depth12 h = refl
 
 pub record Form : Type 0 where
   pub chroma : ℕ

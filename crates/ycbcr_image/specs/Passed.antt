@@ -134,10 +134,10 @@ passed-next s i e =
     let m = row-none (sessionBad s (ofPicture i)) _ _ (n .1) in
     (same s (ofPicture i) (m .0), pass i (n .0) (m .1))
 
-abbrev pub black : ℕ → ℕ → DataPlane → DataPlane → DataPlane → YCbCrImage
-black w h y cb cr = record { width = w; height = h; kind = Mono; y = y; cb = cb; cr = cr }
+abbrev pub monoImage : ℕ → ℕ → DataPlane → DataPlane → DataPlane → YCbCrImage
+monoImage w h y cb cr = record { width = w; height = h; kind = Mono; y = y; cb = cb; cr = cr }
 
-pub mono-alone : (w h : ℕ) (y cb cr cb′ cr′ : DataPlane) → (refusalOf (black w h y cb cr) ≡ refusalOf (black w h y cb′ cr′)) × ((s : Sequence) → refusalNext s (black w h y cb cr) ≡ refusalNext s (black w h y cb′ cr′))
+pub mono-alone : (w h : ℕ) (y cb cr cb′ cr′ : DataPlane) → (refusalOf (monoImage w h y cb cr) ≡ refusalOf (monoImage w h y cb′ cr′)) × ((s : Sequence) → refusalNext s (monoImage w h y cb cr) ≡ refusalNext s (monoImage w h y cb′ cr′))
 unfolding refusalOf refusalNext shapeRefusal planesRefusal depthsBad mono
 mono-alone w h y cb cr cb′ cr′ = (refl, λ s. refl)
 

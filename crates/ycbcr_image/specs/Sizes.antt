@@ -1,19 +1,22 @@
 -- The sizes of a picture and of its planes (ITU-T H.264 6.2 and 7.4.2.1.1; 01, "Pictures accepted" and "Writer's refusals").
 --     Sequence, sequenceOf           what stays the same through a take: width, height, form. A session holds it, and a sequence parameter set says it
+--     session-one                    two sessions that say the same are one
 --     divCeil, nextMultiple          the quotient rounded up; the next multiple of b: the least that is not below a (next-low, next-high)
 --     picWidthInMbs, frameHeightInMbs     PicWidthInMbs and FrameHeightInMbs
 --     visibleWidth ..                a plane's own columns, rows and bytes of a row
 --     paddedWidth ..                 the same with the padding, which fills the last blocks
 --     tightLength                    the bytes of a plane's visible rows, stored tight
 -- Planes are numbered as in Form. Assumes nothing.
-use mathlib.Core.Path.{_≡_}
+use mathlib.Core.Path.{_≡_, refl, ap}
 use mathlib.Core.Bool.{Bool, true, false, cond}
 use Prim.Native.Nat.{ℕ, zero, suc, _+_, _-_, _*_, _/_, _≤_, _<_}
 use native.Mathlib.Nat.{mul-le-mul-left, div-mul-le-self, lt-div-mul-add}
 use native.Mathlib.Omega.{arith}
 use lib.Dec.{eqb}
+use Rattle.ycbcr_image.specs.declared.BitDepth.{BitDepth}
+use Rattle.ycbcr_image.specs.declared.Kind.{Kind}
 use Rattle.ycbcr_image.specs.declared.Session.{Session}
-use Rattle.ycbcr_image.specs.Form.{Form, formOf, mono, inPlane, bytesOf, subWidthC, subHeightC, blockWidth, blockHeight, block-wide-most, block-high-most}
+use Rattle.ycbcr_image.specs.Form.{kind-one, depth-one, Form, formOf, mono, inPlane, bytesOf, subWidthC, subHeightC, blockWidth, blockHeight, block-wide-most, block-high-most}
 
 pub record Sequence : Type 0 where
   pub width : ℕ
@@ -22,6 +25,20 @@ pub record Sequence : Type 0 where
 
 abbrev pub sequenceOf : Session → Sequence
 sequenceOf s = record { width = s .width; height = s .height; form = formOf (s .kind) (s .depth) }
+
+pub session-one : (s t : Session) → sequenceOf s ≡ sequenceOf t → s ≡ t
+session-one s t e =
+    of
+    (ap (λ (q : Sequence). q .width) e)
+    (ap (λ (q : Sequence). q .height) e)
+    (kind-one (s .kind) (t .kind) (ap (λ (q : Sequence). q .form .chroma) e))
+    (depth-one (s .depth) (t .depth) (ap (λ (q : Sequence). q .form .depth) e))
+  where
+    made : ℕ → ℕ → Kind → BitDepth → Session
+    made w h k d = record { width = w; height = h; kind = k; depth = d }
+
+    of : {w h w′ h′ : ℕ} {k k′ : Kind} {d d′ : BitDepth} → w ≡ w′ → h ≡ h′ → k ≡ k′ → d ≡ d′ → made w h k d ≡ made w′ h′ k′ d′
+    of a b c d = rw (a, b, c, d) refl
 
 unfoldable pub divCeil : ℕ → ℕ → ℕ
 divCeil a b = (a + b - 1) / b

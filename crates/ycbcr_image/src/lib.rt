@@ -44,6 +44,7 @@ pub struct Session {
     pub depth: BitDepth,
 }
 
+// The bits of a sample, as a number.
 pub fn num_bits(d: BitDepth) -> u32
     ensures { λ r. ⌜ r ≡ depthOf d ⌝ }
 {
@@ -53,6 +54,7 @@ pub fn num_bits(d: BitDepth) -> u32
     }
 }
 
+// The kind, as the standard numbers it.
 pub fn chroma_format_idc(k: Kind) -> u32
     ensures { λ r. ⌜ r ≡ chromaOf k ⌝ }
 {
@@ -77,19 +79,17 @@ pub fn session_of(i: YCbCrImage) -> Session
     }
 }
 
-// What a form fixes.
+// What the kind and the depth fix.
 
+// Whether there is no chroma.
 pub fn is_monochrome(s: Session) -> bool
     ensures { λ r. ⌜ r ≡ mono (sequenceOf s .form) ⌝ }
 {
     let kind = s.kind;
-    match kind {
-        Kind::Mono => true,
-        Kind::Colour => false,
-    }
+    chroma_format_idc(kind) == 0
 }
 
-// The block of plane p in a macroblock: its columns.
+// The columns of plane p's block in a macroblock; 0 where the kind has no such plane, and so for all that follows.
 pub fn mb_width(s: Session, p: u32) -> usize
     ensures { λ r. ⌜ r ≡ blockWidth (sequenceOf s .form) p ⌝ }
 {
@@ -103,7 +103,7 @@ pub fn mb_width(s: Session, p: u32) -> usize
     }
 }
 
-// Its rows.
+// The rows of the block.
 pub fn mb_height(s: Session, p: u32) -> usize
     ensures { λ r. ⌜ r ≡ blockHeight (sequenceOf s .form) p ⌝ }
 {
@@ -117,7 +117,7 @@ pub fn mb_height(s: Session, p: u32) -> usize
     }
 }
 
-// The units in which a picture is cropped: across.
+// The units in which a picture is cropped, across.
 pub fn crop_unit_x(s: Session) -> u32
     ensures { λ r. ⌜ r ≡ cropUnitX (sequenceOf s .form) ⌝ }
 {
@@ -128,7 +128,7 @@ pub fn crop_unit_x(s: Session) -> u32
     }
 }
 
-// Down.
+// And down.
 pub fn crop_unit_y(s: Session) -> u32
     ensures { λ r. ⌜ r ≡ cropUnitY (sequenceOf s .form) ⌝ }
 {
@@ -167,6 +167,7 @@ pub fn mb_bytes(s: Session) -> usize
 
 // Sizes.
 
+// The quotient, rounded up.
 fn div_ceil(a: usize, b: usize) -> usize
     requires { ⌜ (0 < b) × (a + b < 2 ^ 64) ⌝ }
     ensures { λ r. ⌜ r ≡ divCeil a b ⌝ }
@@ -174,6 +175,7 @@ fn div_ceil(a: usize, b: usize) -> usize
     (a + b - 1) / b
 }
 
+// The least multiple of b that is not below a.
 fn next_multiple(a: usize, b: usize) -> usize
     requires { ⌜ (0 < b) × (a + b < 2 ^ 64) ⌝ }
     ensures { λ r. ⌜ r ≡ nextMultiple a b ⌝ }
@@ -188,7 +190,7 @@ pub fn mbs_width(s: Session) -> usize
     div_ceil(s.width as usize, 16)
 }
 
-// Down it.
+// And down.
 pub fn mbs_height(s: Session) -> usize
     ensures { λ r. ⌜ r ≡ frameHeightInMbs (sequenceOf s) ⌝ }
 {
@@ -245,25 +247,16 @@ pub fn padded_rows(s: Session, p: u32) -> usize
     next_multiple(n, b)
 }
 
-// The refusals, a function for each row of the table.
+// The refusals, a function for each row of the table (01, "Writer's refusals").
 
-// 1
+// 1: width or height is 0 or over 16,384.
 fn size_bad(s: Session) -> bool
     ensures { λ r. ⌜ r ≡ sizeBad (sequenceOf s) ⌝ }
 {
-    if s.width == 0 {
-        return true;
-    }
-    if 16384 < s.width {
-        return true;
-    }
-    if s.height == 0 {
-        return true;
-    }
-    16384 < s.height
+    ((s.width == 0) | (16384 < s.width)) | ((s.height == 0) | (16384 < s.height))
 }
 
-// 2
+// 2: colour and the three depths differ.
 fn depths_bad(i: YCbCrImage) -> bool
     ensures { λ r. ⌜ r ≡ depthsBad i ⌝ }
 {
@@ -273,54 +266,34 @@ fn depths_bad(i: YCbCrImage) -> bool
     let y_depth = y.depth;
     let cb_depth = cb.depth;
     let cr_depth = cr.depth;
-    if is_monochrome(session_of(i)) {
-        return false;
-    }
-    if num_bits(y_depth) != num_bits(cb_depth) {
-        return true;
-    }
-    num_bits(y_depth) != num_bits(cr_depth)
+    let bits = num_bits(y_depth);
+    !is_monochrome(session_of(i)) & ((bits != num_bits(cb_depth)) | (bits != num_bits(cr_depth)))
 }
 
-// 3
+// 3: colour, 12 bits, width not a multiple of 4.
 fn four_bad(s: Session) -> bool
     ensures { λ r. ⌜ r ≡ fourBad (sequenceOf s) ⌝ }
 {
     let depth = s.depth;
-    if is_monochrome(s) {
-        return false;
-    }
-    if num_bits(depth) != 12 {
-        return false;
-    }
-    s.width % 4 != 0
+    !is_monochrome(s) & ((num_bits(depth) == 12) & (s.width % 4 != 0))
 }
 
-// 4
+// 4: width odd, unless mono 8.
 fn odd_bad(s: Session) -> bool
     ensures { λ r. ⌜ r ≡ oddBad (sequenceOf s) ⌝ }
 {
     let depth = s.depth;
-    if s.width % 2 == 0 {
-        return false;
-    }
-    if is_monochrome(s) {
-        return num_bits(depth) != 8;
-    }
-    true
+    (s.width % 2 != 0) & !(is_monochrome(s) & (num_bits(depth) == 8))
 }
 
-// 5
+// 5: colour and height odd.
 fn height_bad(s: Session) -> bool
     ensures { λ r. ⌜ r ≡ heightBad (sequenceOf s) ⌝ }
 {
-    if is_monochrome(s) {
-        return false;
-    }
-    s.height % 2 != 0
+    !is_monochrome(s) & (s.height % 2 != 0)
 }
 
-// 6
+// 6: width, height, colour or depth is not the session's.
 fn session_bad(held: Session, s: Session) -> bool
     ensures { λ r. ⌜ r ≡ sessionBad (sequenceOf held) (sequenceOf s) ⌝ }
 {
@@ -328,35 +301,20 @@ fn session_bad(held: Session, s: Session) -> bool
     let depth = s.depth;
     let held_kind = held.kind;
     let held_depth = held.depth;
-    if s.width != held.width {
-        return true;
-    }
-    if s.height != held.height {
-        return true;
-    }
-    if chroma_format_idc(kind) != chroma_format_idc(held_kind) {
-        return true;
-    }
-    num_bits(depth) != num_bits(held_depth)
+    let size = (s.width != held.width) | (s.height != held.height);
+    size
+        | ((chroma_format_idc(kind) != chroma_format_idc(held_kind))
+            | (num_bits(depth) != num_bits(held_depth)))
 }
 
 // Whether 1, 3, 4 and 5 let this size and kind pass.
 pub fn size_accepted(s: Session) -> bool
     ensures { λ r. ⌜ r ≡ accepted (sequenceOf s) ⌝ }
 {
-    if size_bad(s) {
-        return false;
-    }
-    if four_bad(s) {
-        return false;
-    }
-    if odd_bad(s) {
-        return false;
-    }
-    !height_bad(s)
+    !(size_bad(s) | (four_bad(s) | (odd_bad(s) | height_bad(s))))
 }
 
-// 7 and 8 for plane p.
+// 7 and 8 for plane p: its stride is below its padded row's bytes; it has fewer whole rows of `stride` bytes than its padded height.
 fn check_sizes(s: Session, p: u32, a: DataPlane) -> u32
     requires { ⌜ (accepted (sequenceOf s) ≡ true) × (p < planes (sequenceOf s .form)) ⌝ }
     ensures { λ r. ⌜ r ≡ planeRefusal (sequenceOf s) p a ⌝ }
@@ -373,7 +331,7 @@ fn check_sizes(s: Session, p: u32, a: DataPlane) -> u32
     0
 }
 
-// 1 to 5.
+// 1 to 5, in the table's order.
 fn check_shape(i: YCbCrImage) -> u32
     ensures { λ r. ⌜ r ≡ shapeRefusal i ⌝ }
 {
@@ -435,9 +393,9 @@ fn check_planes(i: YCbCrImage) -> u32
 pub fn check_start(i: YCbCrImage) -> u32
     ensures { λ r. ⌜ r ≡ refusalOf i ⌝ }
 {
-    let shape = check_shape(i);
-    if shape != 0 {
-        return shape;
+    let refused = check_shape(i);
+    if refused != 0 {
+        return refused;
     }
     check_planes(i)
 }

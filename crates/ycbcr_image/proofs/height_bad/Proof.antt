@@ -1,5 +1,5 @@
--- `ycbcr_image::height_bad` meets its contract, test by test. Assumes nothing.
-use mathlib.Core.Path.{refl, sym, _∙_}
+-- `ycbcr_image::height_bad` meets its contract: it is the row of the table. Assumes nothing.
+use mathlib.Core.Path.{refl, sym}
 use Rattle.ycbcr_image.specs.Refusals.{heightBad}
 use borrow.Author.Needs.{needs}
 use Rattle.ycbcr_image.proofs.height_bad.Statement.{statement}
@@ -10,11 +10,7 @@ is-monochrome-requires c κs = search needs
 
 returns : tie.Need-returns
 unfolding heightBad
-returns c = rw (sym (c .before .is-monochrome .ensures) ∙ c .if1 .taken) refl
-
-returns-2 : tie.Need-returns-2
-unfolding heightBad
-returns-2 c = rw (sym (c .before .before .is-monochrome .ensures) ∙ c .before .if1 .left) refl
+returns c = rw (sym (c .before .is-monochrome .ensures)) refl
 
 pub height-bad-spec : {M : Type 1} → statement M
-height-bad-spec = tie.close (tie.spec is-monochrome-requires returns returns-2)
+height-bad-spec = tie.close (tie.spec is-monochrome-requires returns)

@@ -1,4 +1,5 @@
 -- `ycbcr_image::mb_bytes` meets its contract: a chroma block has at most 256 samples. Assumes nothing.
+use mathlib.Core.Path.{sym}
 use Prim.Native.Nat.{_*_, _≤_}
 use native.Mathlib.Nat.{mul-le-mul}
 use native.Mathlib.Omega.{arith}
@@ -35,7 +36,7 @@ row-bytes-requires c κs = let h = small c in omega arith
 
 returns : tie.Need-returns
 unfolding mbBytes
-returns c = cc
+returns c = rw (sym (c .before .before .mb-width .ensures), sym (c .before .mb-height .ensures)) (c .row-bytes .ensures)
 
 pub mb-bytes-spec : {M : Type 1} → statement M
 mb-bytes-spec =

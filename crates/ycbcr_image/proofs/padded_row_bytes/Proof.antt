@@ -1,6 +1,7 @@
 -- `ycbcr_image::padded_row_bytes` meets its contract. Assumes nothing.
+use mathlib.Core.Path.{sym, ap, _∙_}
 use native.Mathlib.Omega.{arith}
-use Rattle.ycbcr_image.specs.Form.{block-wide-most, block-wide-some}
+use Rattle.ycbcr_image.specs.Form.{bytesOf, block-wide-most, block-wide-some}
 use Rattle.ycbcr_image.specs.Sizes.{sequenceOf, paddedWidth, paddedRowBytes, visible-wide-most, next-high}
 use borrow.Author.Needs.{needs}
 use Rattle.ycbcr_image.proofs.padded_row_bytes.Statement.{statement}
@@ -27,7 +28,7 @@ row-bytes-requires c κs =
 
 returns : tie.Need-returns
 unfolding paddedRowBytes paddedWidth
-returns c = cc
+returns c = rw (sym (c .before .before .before .mb-width .ensures), sym (c .before .before .visible-width .ensures)) (c .row-bytes .ensures ∙ ap (bytesOf _) (c .before .next-multiple .ensures))
 
 pub padded-row-bytes-spec : {M : Type 1} → statement M
 padded-row-bytes-spec =

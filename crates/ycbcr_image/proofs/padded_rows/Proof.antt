@@ -1,4 +1,5 @@
 -- `ycbcr_image::padded_rows` meets its contract. Assumes nothing.
+use mathlib.Core.Path.{sym}
 use native.Mathlib.Omega.{arith}
 use Rattle.ycbcr_image.specs.Form.{block-high-most, block-high-some}
 use Rattle.ycbcr_image.specs.Sizes.{sequenceOf, paddedHeight, visible-high-most}
@@ -20,7 +21,7 @@ next-multiple-requires c κs =
 
 returns : tie.Need-returns
 unfolding paddedHeight
-returns c = cc
+returns c = rw (sym (c .before .before .mb-height .ensures), sym (c .before .visible-rows .ensures)) (c .next-multiple .ensures)
 
 pub padded-rows-spec : {M : Type 1} → statement M
 padded-rows-spec =

@@ -1,4 +1,5 @@
 -- `ycbcr_image::tight_len` meets its contract: the product is small. Assumes nothing.
+use mathlib.Core.Path.{refl, sym}
 use native.Mathlib.Omega.{arith}
 use Rattle.ycbcr_image.specs.Sizes.{tightLength}
 use Rattle.ycbcr_image.specs.Accepted.{fine, tight-most}
@@ -14,7 +15,7 @@ visible-row-bytes-requires c κs = search needs
 
 returns : tie.Need-returns
 unfolding tightLength
-returns c = cc (c .before .visible-rows .ensures, c .visible-row-bytes .ensures)
+returns c = rw (sym (c .before .visible-rows .ensures), sym (c .visible-row-bytes .ensures)) refl
 
 mul-result : tie.Need-mul-result
 mul-result c =
