@@ -1,1 +1,4 @@
 pub mod Escape
+pub mod EscapeCode
+pub mod ListsCode
+pub mod Answers
