@@ -4,25 +4,22 @@
 --     counted d at          those before the place `at` of the output d
 -- Assumes nothing.
 use mathlib.Core.Path.{_≡_, refl, sym, ap, _∙_}
-use mathlib.Core.List.{List, [], _∷_, _++_, append-assoc}
-use mathlib.Core.Bool.{Bool, true, false, cond, _&&_}
-use Prim.Native.Nat.{ℕ, zero, suc, _+_, _*_, _≤_, _<_}
-use native.Mathlib.Nat.{zero-add}
+use mathlib.Core.List.{List, [], _∷_, _++_, append-assoc, append-nil}
+use mathlib.Core.Bool.{Bool, true, false, cond, not, _&&_, true≢false}
+use Prim.Native.Nat.{ℕ, zero, suc, _+_, _-_, _*_, _/_, _%_, _≤_, _<_}
+use native.Mathlib.Nat.{zero-add, add-zero, sub-zero, mod-eq-of-lt}
 use native.Mathlib.Numerals.{add-one}
 use native.Mathlib.Omega.{arith}
 use lib.Dec.{leb, eqb, eqb·suc-zero}
-use lib.ListN.{length, take, drop, getD, set, length-append, length-take}
-use lib.Seq.{take-suc, take-at, length-take-le}
-use borrow.Author.Tests.{le-leb, lt-leb, ne-eqb}
+use lib.Bits.{bitAnd, bitOr, and-high}
+use lib.ListN.{length, take, drop, getD, set, replicate, length-append, length-take}
+use lib.Seq.{take-suc, take-at, take-add, length-take-le}
+use borrow.Author.Tests.{eqb-true, not-true, le-leb, lt-leb, eq-eqb, ne-eqb}
 use Rattle.lists.specs.Fill.{splice, splice-length, set-splice, splice-splice, Writing, start-at, puts, puts-room, done-at}
-use Rattle.lists.specs.Part.{part}
+use Rattle.lists.specs.Part.{part, part-length, part-none, part-cons, part-append}
 use Rattle.lists.specs.Test.{either}
-use Rattle.nal_unit.specs.ListsCode.{part-all, splice-front}
+use Rattle.nal_unit.specs.ListsCode.{and-false, and-assoc, or-zero, every, part-all, splice-front}
 use Rattle.nal_unit.specs.Escape.{esc, inserts, emit, zeros, escFrom, zerosEnd, esc-nil, esc-append, end-nil, end-append}
-
-and-false : (b : Bool) → b && false ≡ false
-and-false true = refl
-and-false false = refl
 
 -- whether 03 goes before a byte
 pub inserts-few : (z x : ℕ) → z < 2 → inserts z x ≡ false
@@ -152,41 +149,40 @@ pub counted-few : (d : List ℕ) (at : ℕ) → counted d at ≤ at
 unfolding counted
 counted-few d at = omega (arith, run-end-few 0 (take at d), length-take at d)
 
--- the count is full where the two bytes before the place are zero, and there only
-pub full-if : (d : List ℕ) (q : ℕ) → q + 2 ≤ length d → getD d q 0 ≡ 0 → getD d (q + 1) 0 ≡ 0 → counted d (q + 2) ≡ 2
-full-if d q h a b =
-    let e : q + 2 ≡ q + 1 + 1 = omega arith in
-    rw (e, counted-step d (q + 1) (omega arith), counted-step d q (omega arith), a, b)
-    (either 2 (counted d q)
-    (λ f. rw (run-full (counted d q) f) (run-full 2 (omega arith)))
-    (λ l. rw (run-zero (counted d q) l) (either 2 (counted d q + 1) (λ f. run-full (counted d q + 1) f) (λ f. rw (run-zero (counted d q + 1) f) (omega arith)))))
+-- the count behind two bytes is theirs alone
+unfoldable pub lastTwo : ℕ → ℕ → ℕ
+lastTwo a b = cond (eqb b 0) (cond (eqb a 0) 2 1) 0
 
-pub counted-other : (d : List ℕ) (q : ℕ) → q + 1 ≤ length d → 0 < getD d q 0 → counted d (q + 1) ≡ 0
-counted-other d q h l = rw (counted-step d q (omega arith)) (run-other (counted d q) (getD d q 0) l)
+pub run-two : (z a b : ℕ) → run (run z a) b ≡ lastTwo a b
+unfolding lastTwo
+run-two z a (suc b) = rw (run-other (run z a) (suc b) (omega arith), eqb·suc-zero b) refl
+run-two z (suc a) zero = rw (run-other z (suc a) (omega arith), eqb·suc-zero a) (run-zero 0 (omega arith))
+run-two z zero zero =
+    either 2 z
+    (λ f. rw (run-full z f) (run-full 2 (omega arith)))
+    (λ l. rw (run-zero z l) (either 2 (z + 1) (λ f. run-full (z + 1) f) (λ g. rw (run-zero (z + 1) g) (omega arith))))
 
-pub not-full : (d : List ℕ) (q : ℕ) → q + 2 ≤ length d → 0 < getD d q 0 → counted d (q + 2) < 2
-not-full d q h l =
+pub counted-two : (d : List ℕ) (q : ℕ) → q + 2 ≤ length d → counted d (q + 2) ≡ lastTwo (getD d q 0) (getD d (q + 1) 0)
+counted-two d q h =
     let e : q + 2 ≡ q + 1 + 1 = omega arith in
-    rw (e, counted-step d (q + 1) (omega arith), counted-other d q (omega arith) l) (by (getD d (q + 1) 0))
+    rw (e, counted-step d (q + 1) (omega arith), counted-step d q (omega arith)) (run-two (counted d q) (getD d q 0) (getD d (q + 1) 0))
+
+pub inserts-two : (a b x : ℕ) → inserts (lastTwo a b) x ≡ eqb a 0 && (eqb b 0 && leb x 3)
+unfolding inserts lastTwo
+inserts-two a b x = by (eqb a 0) (eqb b 0)
   where
-    by : (x : ℕ) → run 0 x < 2
-    by zero = rw (run-zero 0 (omega arith)) (omega arith)
-    by (suc x) = rw (run-other 0 (suc x) (omega arith)) (omega arith)
+    by : (t u : Bool) → leb 2 (cond u (cond t 2 1) 0) && leb x 3 ≡ t && (u && leb x 3)
+    by true true = refl
+    by true false = refl
+    by false true = refl
+    by false false = refl
 
--- whether 03 goes before a byte of 03 or less, where the byte before the place is zero
-pub inserts-last : (d : List ℕ) (at p q b : ℕ) → at ≡ q + 2 → p ≡ q + 1 → at ≤ length d → getD d p 0 ≡ 0 → b ≤ 3
-    → eqb (getD d q 0) 0 ≡ inserts (counted d at) b
-inserts-last d at p q b e f h a l =
-    let r : q + 2 ≤ length d = omega arith in
-    rw e
-    (either (getD d q 0) 0
-    (λ g. let k : getD d q 0 ≡ 0 = omega arith in rw (full-if d q r k (rw f at a), k) (sym (inserts-here 2 b (omega arith) l)))
-    (λ g. rw (inserts-few (counted d (q + 2)) b (not-full d q r g)) (ne-eqb (getD d q 0) 0 (λ k. omega arith))))
+-- the same at a place whose two bytes before it stand at q and p
+pub counted-at : (d : List ℕ) (at p q : ℕ) → at ≡ q + 2 → p ≡ q + 1 → at ≤ length d → counted d at ≡ lastTwo (getD d q 0) (getD d p 0)
+counted-at d at p q e f h = rw (e, f) (counted-two d q (omega arith))
 
-pub inserts-other : (d : List ℕ) (at p b : ℕ) → at ≡ p + 1 → at ≤ length d → (getD d p 0 ≡ 0 → ⊥) → inserts (counted d at) b ≡ false
-inserts-other d at p b e h n =
-    let g : counted d (p + 1) ≡ 0 = counted-other d p (omega arith) (either 1 (getD d p 0) (λ k. k) (λ k. absurd (n (omega arith)))) in
-    rw (e, g) (inserts-few 0 b (omega arith))
+pub inserts-at : (d : List ℕ) (at p q b : ℕ) → at ≡ q + 2 → p ≡ q + 1 → at ≤ length d → inserts (counted d at) b ≡ eqb (getD d q 0) 0 && (eqb (getD d p 0) 0 && leb b 3)
+inserts-at d at p q b e f h = rw (counted-at d at p q e f h) (inserts-two (getD d q 0) (getD d p 0) b)
 
 -- what is written for a byte, for a payload, leaves behind it the count that the definition keeps
 run-emit : (z x : ℕ) → z ≤ 2 → runEnd z (emit z x) ≡ zeros z x
@@ -320,3 +316,217 @@ whole d p = rw (counted-none d, part-all p) refl
 pub put-whole : (d p : List ℕ) {d′ : List ℕ} {at : ℕ} → Put d 0 (part p 0 (length p)) d′ at → (at ≡ length (esc p)) × (d′ ≡ esc p ++ drop (length (esc p)) d)
 put-whole d p g =
     (g .place ∙ rw (whole d p) (zero-add (length (esc p))), g .bytes ∙ rw (whole d p) (splice-front d (esc p)))
+
+-- No byte of xs gets 03, after z counted zeros.
+pub data Quiet : ℕ → List ℕ → Type 0 where
+  none : {z : ℕ} → Quiet z []
+  more : {z x : ℕ} {xs : List ℕ} → inserts z x ≡ false → Quiet (zeros z x) xs → Quiet z (x ∷ xs)
+
+-- such a stretch is its own escape
+pub quiet-esc : {z : ℕ} {xs : List ℕ} → Quiet z xs → escFrom z xs ≡ xs
+unfolding escFrom emit
+quiet-esc none = refl
+quiet-esc (more e q) = rw (e, quiet-esc q) refl
+
+-- where 03 is not put in, the count is that of the zeros in a row; it is never above it
+zeros-plain : (z x : ℕ) → z ≤ 2 → inserts z x ≡ false → zeros z x ≡ run z x
+unfolding zeros
+zeros-plain z zero h e = elim (case z 0 h) [ hit f l m ↦ let t : _≡_ {A = Bool} true false = cc in absurd (true≢false t) | high f l m ↦ absurd (omega arith) | few f l ↦ rw (e, run-zero z l) refl ]
+zeros-plain z (suc x) h e = rw (eqb·suc-zero x, run-other z (suc x) (omega arith)) refl
+
+zeros-run : (z y x : ℕ) → z ≤ 2 → z ≤ y → zeros z x ≤ run y x
+unfolding zeros
+zeros-run z y zero h l =
+    elim (case z 0 h) [ hit e f m ↦ rw (e, run-full y (omega arith)) (omega arith) | high e f m ↦ absurd (omega arith) | few e f ↦ rw e (either 2 y (λ g. rw (run-full y g) (omega arith)) (λ g. rw (run-zero y g) (omega arith))) ]
+zeros-run z y (suc x) h l = rw (eqb·suc-zero x) (omega arith)
+
+pub end-run : (z y : ℕ) (xs : List ℕ) → z ≤ 2 → z ≤ y → zerosEnd z xs ≤ runEnd y xs
+unfolding zerosEnd runEnd
+end-run z y [] h l = l
+end-run z y (x ∷ xs) h l = end-run (zeros z x) (run y x) xs (zeros-most z x h) (zeros-run z y x h l)
+
+pub quiet-run : {z : ℕ} {xs : List ℕ} → z ≤ 2 → Quiet z xs → zerosEnd z xs ≡ runEnd z xs
+unfolding zerosEnd runEnd
+quiet-run h none = refl
+quiet-run {z} h (more {x = x} e q) = rw (← zeros-plain z x h e) (quiet-run (zeros-most z x h) q)
+
+-- the count before a place of s, and behind a part of it
+pub counted-part : (s : List ℕ) (p n : ℕ) → counted s (p + n) ≡ runEnd (counted s p) (part s p n)
+unfolding counted part
+counted-part s p n = rw (take-add p n s) (run-append 0 (take p s) (take n (drop p s)))
+
+-- behind a part of two bytes or more the count is the part's alone
+run-long : (z a b : ℕ) (xs : List ℕ) → runEnd z (a ∷ b ∷ xs) ≡ runEnd (lastTwo a b) xs
+unfolding runEnd
+run-long z a b xs = ap (λ (u : ℕ). runEnd u xs) (run-two z a b)
+
+pub run-part : (s : List ℕ) (p n z : ℕ) → p + (n + 2) ≤ length s → runEnd z (part s p (n + 2)) ≡ counted s (p + (n + 2))
+run-part s p n z h =
+    let e : n + 2 ≡ n + 1 + 1 = omega arith in
+    let x : part s p (n + 2) ≡ getD s p 0 ∷ getD s (p + 1) 0 ∷ part s (p + 1 + 1) n =
+    rw (e, part-cons s p (n + 1) (omega arith), part-cons s (p + 1) n (omega arith)) refl in
+    let g : (u : ℕ) → runEnd u (part s p (n + 2)) ≡ runEnd (lastTwo (getD s p 0) (getD s (p + 1) 0)) (part s (p + 1 + 1) n) =
+    λ u. rw x (run-long u (getD s p 0) (getD s (p + 1) 0) (part s (p + 1 + 1) n)) in
+    g z ∙ sym (counted-part s p (n + 2) ∙ g (counted s p))
+
+-- whether the byte at the place i of s goes without 03, by the bytes that stand before it in s
+unfoldable pub plainAt : List ℕ → ℕ → Bool
+plainAt s i = not (inserts (counted s i) (getD s i 0))
+
+less-plain : (z y x : ℕ) → z ≤ y → inserts y x ≡ false → inserts z x ≡ false
+unfolding inserts
+less-plain z y x l e = either 2 z (λ f. rw (le-leb 2 z f) (rw (le-leb 2 y (omega arith)) at e)) (λ f. rw (lt-leb 2 z f) refl)
+
+and-both : (a b : Bool) → a && b ≡ true → (a ≡ true) × (b ≡ true)
+and-both true b e = (refl, e)
+and-both false b e = absurd (true≢false (sym e))
+
+-- a part of s whose bytes all do, written where fewer zeros are counted or as many
+pub quiet-part : (s : List ℕ) (p n z : ℕ) → p + n ≤ length s → z ≤ 2 → z ≤ counted s p → every (plainAt s) p n ≡ true → Quiet z (part s p n)
+unfolding every plainAt
+quiet-part s p zero z h l m q = rw (part-none s p) none
+quiet-part s p (suc n) z h l m q =
+    let x = getD s p 0 in
+    let a = and-both (not (inserts (counted s p) x)) (every (plainAt s) (p + 1) n) q in
+    let m′ : zeros z x ≤ counted s (p + 1) = rw (counted-step s p (omega arith)) (zeros-run z (counted s p) x l m) in
+    rw (← add-one n, part-cons s p n (omega arith))
+    (more (less-plain z (counted s p) x m (not-true (inserts (counted s p) x) (a .0))) (quiet-part s (p + 1) n (zeros z x) (omega arith) (zeros-most z x l) m′ (a .1)))
+
+-- n zero bytes
+unfoldable pub blanks : ℕ → List ℕ
+blanks n = replicate n 0
+
+-- whether the byte at the place i of s is zero
+unfoldable pub zeroAt : List ℕ → ℕ → Bool
+zeroAt s i = eqb (getD s i 0) 0
+
+pub zero-part : (s : List ℕ) (p n : ℕ) → p + n ≤ length s → every (zeroAt s) p n ≡ true → part s p n ≡ blanks n
+unfolding every zeroAt blanks
+zero-part s p zero h q = part-none s p
+zero-part s p (suc n) h q =
+    let a = and-both (eqb (getD s p 0) 0) (every (zeroAt s) (p + 1) n) q in
+    rw (← add-one n, part-cons s p n (omega arith), eqb-true (getD s p 0) 0 (a .0), zero-part s (p + 1) n (omega arith) (a .1)) refl
+
+-- the test of three bytes as the code makes it: the first two are zero, and the third is 03 or less
+pub three-bits : (a b x : ℕ) → x < 256 → eqb (bitOr (bitOr a b) (bitAnd x 252)) 0 ≡ eqb a 0 && (eqb b 0 && leb x 3)
+three-bits a b x h = rw (or-zero (bitOr a b) (bitAnd x 252), or-zero a b, low) (and-assoc (eqb a 0) (eqb b 0) (leb x 3))
+  where
+    low : eqb (bitAnd x 252) 0 ≡ leb x 3
+    low =
+        either x 3
+        (λ l. let e : x / 4 % 64 * 4 ≡ 0 = omega arith in eq-eqb (bitAnd x 252) 0 (and-high x 6 2 ∙ e) ∙ sym (le-leb x 3 l))
+        (λ g. ne-eqb (bitAnd x 252) 0 (λ e. let f : x / 4 % 64 * 4 ≡ 0 = sym (and-high x 6 2) ∙ e in let m : x / 4 < 64 = omega arith in omega (arith, mod-eq-of-lt m)) ∙ sym (lt-leb x 3 g))
+
+pub plain-bits : (s : List ℕ) (i q : ℕ) → i ≡ q + 2 → i < length s → getD s (q + 2) 0 < 256
+    → plainAt s i ≡ not (eqb (bitOr (bitOr (getD s q 0) (getD s (q + 1) 0)) (bitAnd (getD s (q + 2) 0) 252)) 0)
+unfolding plainAt
+plain-bits s i q e h b =
+    rw (e, inserts-at s (q + 2) (q + 1) q (getD s (q + 2) 0) refl refl (omega arith), three-bits (getD s q 0) (getD s (q + 1) 0) (getD s (q + 2) 0) b) refl
+
+-- zeros in pairs as they are escaped, 03 in each: from the first byte on behind one counted zero, from the second on behind two
+unfoldable pub pairs : ℕ → List ℕ
+pairs zero = 0 ∷ 3 ∷ []
+pairs (suc n) = 0 ∷ 3 ∷ 0 ∷ pairs n
+
+pub pairs-length : length (pairs 32) ≡ 98
+unfolding pairs
+pairs-length = refl
+
+blanks-one : escFrom 1 (blanks 64) ≡ part (pairs 32) 0 96
+unfolding escFrom emit zeros inserts blanks pairs part
+blanks-one = refl
+
+blanks-two : escFrom 2 (blanks 64) ≡ part (pairs 32) 1 96
+unfolding escFrom emit zeros inserts blanks pairs part
+blanks-two = refl
+
+pub blanks-esc : (z : ℕ) → 0 < z → z ≤ 2 → escFrom z (blanks 64) ≡ part (pairs 32) (z - 1) 96
+blanks-esc z h l = either z 1 (λ a. let e : z ≡ 1 = omega arith in rw e blanks-one) (λ b. let e : z ≡ 2 = omega arith in rw e blanks-two)
+
+pub blanks-size : (z : ℕ) → 0 < z → z ≤ 2 → length (escFrom z (blanks 64)) ≡ 96
+blanks-size z h l = rw (blanks-esc z h l) (part-length (pairs 32) (z - 1) 96 (omega (arith, pairs-length)))
+
+end-one : zerosEnd 1 (blanks 64) ≡ 1
+unfolding zerosEnd zeros inserts blanks
+end-one = refl
+
+end-two : zerosEnd 2 (blanks 64) ≡ 2
+unfolding zerosEnd zeros inserts blanks
+end-two = refl
+
+pub blanks-end : (z : ℕ) → 0 < z → z ≤ 2 → zerosEnd z (blanks 64) ≡ z
+blanks-end z h l = either z 1 (λ a. let e : z ≡ 1 = omega arith in rw e end-one) (λ b. let e : z ≡ 2 = omega arith in rw e end-two)
+
+-- 64 zeros written
+pub put-blanks : (d : List ℕ) (at z : ℕ) {d′ : List ℕ} → 0 < z → z ≡ counted d at → d′ ≡ splice d at (part (pairs 32) (z - 1) 96) → Put d at (blanks 64) d′ (at + 96)
+put-blanks d at z h e f =
+    let m : z ≤ 2 = omega (arith, counted-most d at) in
+    let b : escFrom (counted d at) (blanks 64) ≡ part (pairs 32) (z - 1) 96 = rw (← e) (blanks-esc z h m) in
+    record { place = rw (← e, blanks-size z h m) refl; bytes = rw b f }
+
+-- a stretch that is its own escape, written as it is
+pub put-quiet : (d : List ℕ) (at : ℕ) {xs d′ : List ℕ} {at′ : ℕ} → Quiet (counted d at) xs → d′ ≡ splice d at xs → at′ ≡ at + length xs → Put d at xs d′ at′
+put-quiet d at q e f = record { place = rw (quiet-esc q) f; bytes = rw (quiet-esc q) e }
+
+-- The n bytes of s from p on are being escaped at the place `at` of the output that held d: k are written, up to the place a. As many zeros stand in s
+-- before the next byte as are counted, or more.
+pub record Along (s : List ℕ) (p n : ℕ) (d : List ℕ) (at : ℕ) (out : List ℕ) (a k : ℕ) : Type 0 where
+  pub within : k ≤ n
+  pub far : at ≤ a
+  pub less : counted out a ≤ counted s (p + k)
+  pub escaping : Escaping d at (part s p n) out a (part s (p + k) (n - k))
+
+pub along-start : (s : List ℕ) (p n : ℕ) (d : List ℕ) (at : ℕ) → at + length (escFrom (counted d at) (part s p n)) ≤ length d → counted d at ≤ counted s p → Along s p n d at d at 0
+along-start s p n d at h l =
+    record { within = omega arith; far = omega arith; less = rw (add-zero p) l; escaping = rw (add-zero p, sub-zero n) (begin d at (part s p n) h) }
+
+along-split : {s : List ℕ} {p n : ℕ} {d : List ℕ} {at : ℕ} {out : List ℕ} {a k : ℕ} (w : ℕ) → Along s p n d at out a k → k + w ≤ n
+    → Escaping d at (part s p n) out a (part s (p + k) w ++ part s (p + (k + w)) (n - (k + w)))
+along-split {s} {p} {n} {k = k} w g h =
+    let e : n - k ≡ w + (n - (k + w)) = omega arith in
+    let f : p + (k + w) ≡ p + k + w = omega arith in
+    rw f (rw (e, part-append s (p + k) w (n - (k + w))) at (g .escaping))
+
+-- the next w bytes have room, and are written
+pub along-room : {s : List ℕ} {p n : ℕ} {d : List ℕ} {at : ℕ} {out : List ℕ} {a k : ℕ} (w : ℕ) → Along s p n d at out a k → k + w ≤ n
+    → a + length (escFrom (counted out a) (part s (p + k) w)) ≤ length out
+along-room {s} {p} {n} {k = k} w g h = turn-room (part s (p + k) w) (part s (p + (k + w)) (n - (k + w))) (along-split w g h)
+
+pub along-turn : {s : List ℕ} {p n : ℕ} {d : List ℕ} {at : ℕ} {out : List ℕ} {a k : ℕ} (w : ℕ) {out′ : List ℕ} {a′ : ℕ} → Along s p n d at out a k → k + w ≤ n
+    → Put out a (part s (p + k) w) out′ a′ → Along s p n d at out′ a′ (k + w)
+along-turn {s} {p} {n} {d} {at} {out} {a} {k} w g h q =
+    let f : p + (k + w) ≡ p + k + w = omega arith in
+    let z = counted out a in
+    record {
+      within = h;
+      far = omega (arith, q .place, g .far);
+      less =
+          rw (put-count q (omega (arith, along-room w g h)), f, counted-part s (p + k) w)
+          (end-run z (counted s (p + k)) (part s (p + k) w) (counted-most out a) (g .less));
+      escaping = turn (part s (p + k) w) (part s (p + (k + w)) (n - (k + w))) (along-split w g h) q;
+    }
+
+-- the last ones are written
+pub along-end : {s : List ℕ} {p n : ℕ} {d : List ℕ} {at : ℕ} {out : List ℕ} {a k : ℕ} {out′ : List ℕ} {a′ : ℕ} → Along s p n d at out a k
+    → Put out a (part s (p + k) (n - k)) out′ a′ → Put d at (part s p n) out′ a′
+along-end {s} {p} {n} {k = k} g q = end (turn (part s (p + k) (n - k)) [] (rw (append-nil (part s (p + k) (n - k))) (g .escaping)) q)
+
+-- two payloads escaped one behind the other are their concatenation escaped
+second : (d : List ℕ) (at : ℕ) (xs ys : List ℕ) {d′ : List ℕ} {at′ : ℕ} → at + length (escFrom (counted d at) (xs ++ ys)) ≤ length d → Put d at xs d′ at′
+    → Escaping d at (xs ++ ys) d′ at′ (ys ++ [])
+second d at xs ys h p = rw (append-nil ys) (turn xs ys (begin d at (xs ++ ys) h) p)
+
+pub pieces-first : (d : List ℕ) (at : ℕ) (xs ys : List ℕ) → at + length (escFrom (counted d at) (xs ++ ys)) ≤ length d → at + length (escFrom (counted d at) xs) ≤ length d
+pieces-first d at xs ys h = turn-room xs ys (begin d at (xs ++ ys) h)
+
+pub pieces-room : (d : List ℕ) (at : ℕ) (xs ys : List ℕ) {d′ : List ℕ} {at′ : ℕ} → at + length (escFrom (counted d at) (xs ++ ys)) ≤ length d → Put d at xs d′ at′
+    → at′ + length (escFrom (counted d′ at′) ys) ≤ length d′
+pieces-room d at xs ys h p = turn-room ys [] (second d at xs ys h p)
+
+pub pieces : (d : List ℕ) (at : ℕ) (xs ys : List ℕ) {d′ d″ : List ℕ} {at′ at″ : ℕ} → at + length (escFrom (counted d at) (xs ++ ys)) ≤ length d
+    → Put d at xs d′ at′ → Put d′ at′ ys d″ at″ → Put d at (xs ++ ys) d″ at″
+pieces d at xs ys h p q = end (turn ys [] (second d at xs ys h p) q)
+
+-- behind the first two bytes of a part as many zeros stand in s as are counted, or more
+pub first-two : (s : List ℕ) (p z : ℕ) → z ≤ 2 → p + 2 ≤ length s → zerosEnd z (part s p 2) ≤ counted s (p + 2)
+first-two s p z h l = rw (← run-part s p 0 2 l) (end-run z 2 (part s p 2) h h)

@@ -1,6 +1,9 @@
 // Units of the byte stream (nal_unit.rs; ITU-T H.264 7.3.1, 7.4.1 and Annex B): escaping and unescaping, framing, start codes, units.
+pub mod calm;
 pub mod count;
+pub mod fast;
 pub mod put;
+pub mod rows;
 
 ghost use mathlib.Core.Path.{_≡_};
 ghost use lib.Dec.{leb};
@@ -44,6 +47,6 @@ pub fn rbsp_to_ebsp(rbsp: &[u8], nal: &mut [u8]) -> Escaped
     if !has_room(rbsp, nal.len()) {
         return Escaped::NoRoom;
     }
-    let at = put::put_bytes(rbsp, 0, rbsp.len(), nal, 0);
+    let at = fast::put_slice(rbsp, 0, rbsp.len(), nal, 0);
     Escaped::Written(at)
 }

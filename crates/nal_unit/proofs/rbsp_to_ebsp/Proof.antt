@@ -28,8 +28,8 @@ has-room-requires c κs = search needs
 returns : tie.Need-returns
 returns c = let a = S (c .before) .args in let e = escaped-none (a .rbsp .now) (a .nal .now) (none c) in (sym (e .0), sym (e .1))
 
-put-bytes-requires : tie.Need-put-bytes-requires
-put-bytes-requires c κs =
+put-slice-requires : tie.Need-put-slice-requires
+put-slice-requires c κs =
     let a = S (c .before .before) .args in
     (omega arith, omega (arith, room (c .before), ap length (whole (a .nal .now) (a .rbsp .now))))
 
@@ -40,9 +40,9 @@ returns-2 : tie.Need-returns-2
 returns-2 c =
     let s = S (c .before .before .before .before .before) .args in
     let e = escaped-room (s .rbsp .now) (s .nal .now) (room (c .before .before .before .before)) in
-    let p = put-whole (s .nal .now) (s .rbsp .now) (c .before .before .put-bytes .ensures) in
+    let p = put-whole (s .nal .now) (s .rbsp .now) (c .before .before .put-slice .ensures) in
     (ap Written (p .0) ∙ sym (e .0), p .1 ∙ sym (e .1))
 
 pub rbsp-to-ebsp-spec : {M : Type 1} → statement M
 rbsp-to-ebsp-spec =
-    tie.close (tie.spec has-room-requires returns put-bytes-requires same-length returns-2)
+    tie.close (tie.spec has-room-requires returns put-slice-requires same-length returns-2)
