@@ -300,6 +300,10 @@ count-turn {z} {all} {m} {y} xs ys {m′} {y′} g c =
 pub count-end : {z : ℕ} {all : List ℕ} {m y : ℕ} → Counting z all m y [] → Counts z all m y
 count-end {z} {all} {m} {y} g = record { size = omega (arith, ap length (esc-nil y)); ends = sym (end-nil y) ∙ g .ending }
 
+-- what is counted of a part of a slice fits, with room to spare
+pub counts-fit : {z : ℕ} {xs : List ℕ} {n y : ℕ} → z ≤ 2 → Counts z xs n y → 2 * n ≤ 3 * length xs + 2
+counts-fit {z} {xs} h c = rw (c .size) (omega (arith, esc-most z xs h))
+
 -- one byte: 03 goes before it; or not, and it is zero, or not
 pub counts-hit : (z b y : ℕ) → inserts z b ≡ true → y ≡ cond (eqb b 0) 1 0 → Counts z (b ∷ []) 2 y
 unfolding zerosEnd zeros
@@ -423,28 +427,28 @@ unfolding plainAt
 plain-bits s i q e h b =
     rw (e, inserts-at s (q + 2) (q + 1) q (getD s (q + 2) 0) refl refl (omega arith), three-bits (getD s q 0) (getD s (q + 1) 0) (getD s (q + 2) 0) b) refl
 
--- zeros in pairs as they are escaped, 03 in each: from the first byte on behind one counted zero, from the second on behind two
-unfoldable pub pairs : ℕ → List ℕ
-pairs zero = 0 ∷ 3 ∷ []
-pairs (suc n) = 0 ∷ 3 ∷ 0 ∷ pairs n
+-- pairs of zeros with 03 in each, as they are escaped behind one counted zero, 00 03 00, and behind two, 03 00 00
+unfoldable pub triples : ℕ → ℕ → ℕ → ℕ → List ℕ
+triples a b c zero = []
+triples a b c (suc n) = a ∷ b ∷ c ∷ triples a b c n
 
-pub pairs-length : length (pairs 32) ≡ 98
-unfolding pairs
-pairs-length = refl
-
-blanks-one : escFrom 1 (blanks 64) ≡ part (pairs 32) 0 96
-unfolding escFrom emit zeros inserts blanks pairs part
+pub blanks-one : escFrom 1 (blanks 64) ≡ triples 0 3 0 32
+unfolding escFrom emit zeros inserts blanks triples
 blanks-one = refl
 
-blanks-two : escFrom 2 (blanks 64) ≡ part (pairs 32) 1 96
-unfolding escFrom emit zeros inserts blanks pairs part
+pub blanks-two : escFrom 2 (blanks 64) ≡ triples 3 0 0 32
+unfolding escFrom emit zeros inserts blanks triples
 blanks-two = refl
 
-pub blanks-esc : (z : ℕ) → 0 < z → z ≤ 2 → escFrom z (blanks 64) ≡ part (pairs 32) (z - 1) 96
-blanks-esc z h l = either z 1 (λ a. let e : z ≡ 1 = omega arith in rw e blanks-one) (λ b. let e : z ≡ 2 = omega arith in rw e blanks-two)
+pub triples-length : (a b c : ℕ) → length (triples a b c 32) ≡ 96
+unfolding triples
+triples-length a b c = refl
 
 pub blanks-size : (z : ℕ) → 0 < z → z ≤ 2 → length (escFrom z (blanks 64)) ≡ 96
-blanks-size z h l = rw (blanks-esc z h l) (part-length (pairs 32) (z - 1) 96 (omega (arith, pairs-length)))
+blanks-size z h l =
+    either z 1
+    (λ a. let e : z ≡ 1 = omega arith in rw (e, blanks-one) (triples-length 0 3 0))
+    (λ b. let e : z ≡ 2 = omega arith in rw (e, blanks-two) (triples-length 3 0 0))
 
 end-one : zerosEnd 1 (blanks 64) ≡ 1
 unfolding zerosEnd zeros inserts blanks
@@ -457,12 +461,9 @@ end-two = refl
 pub blanks-end : (z : ℕ) → 0 < z → z ≤ 2 → zerosEnd z (blanks 64) ≡ z
 blanks-end z h l = either z 1 (λ a. let e : z ≡ 1 = omega arith in rw e end-one) (λ b. let e : z ≡ 2 = omega arith in rw e end-two)
 
--- 64 zeros written
-pub put-blanks : (d : List ℕ) (at z : ℕ) {d′ : List ℕ} → 0 < z → z ≡ counted d at → d′ ≡ splice d at (part (pairs 32) (z - 1) 96) → Put d at (blanks 64) d′ (at + 96)
-put-blanks d at z h e f =
-    let m : z ≤ 2 = omega (arith, counted-most d at) in
-    let b : escFrom (counted d at) (blanks 64) ≡ part (pairs 32) (z - 1) 96 = rw (← e) (blanks-esc z h m) in
-    record { place = rw (← e, blanks-size z h m) refl; bytes = rw b f }
+-- 64 zeros written behind z counted ones
+pub put-blanks : (d : List ℕ) (at z : ℕ) {v d′ : List ℕ} → counted d at ≡ z → escFrom z (blanks 64) ≡ v → length v ≡ 96 → d′ ≡ splice d at v → Put d at (blanks 64) d′ (at + 96)
+put-blanks d at z e b l f = record { place = rw (e, b, l) refl; bytes = rw (e, b) f }
 
 -- a stretch that is its own escape, written as it is
 pub put-quiet : (d : List ℕ) (at : ℕ) {xs d′ : List ℕ} {at′ : ℕ} → Quiet (counted d at) xs → d′ ≡ splice d at xs → at′ ≡ at + length xs → Put d at xs d′ at′
@@ -530,3 +531,45 @@ pieces d at xs ys h p q = end (turn ys [] (second d at xs ys h p) q)
 -- behind the first two bytes of a part as many zeros stand in s as are counted, or more
 pub first-two : (s : List ℕ) (p z : ℕ) → z ≤ 2 → p + 2 ≤ length s → zerosEnd z (part s p 2) ≤ counted s (p + 2)
 first-two s p z h l = rw (← run-part s p 0 2 l) (end-run z 2 (part s p 2) h h)
+
+-- a stretch that is its own escape, counted: two bytes or more, so that the count behind it is read off s
+pub counts-quiet : (s : List ℕ) (p n z : ℕ) → z ≤ 2 → p + (n + 2) ≤ length s → Quiet z (part s p (n + 2)) → Counts z (part s p (n + 2)) (n + 2) (counted s (p + (n + 2)))
+counts-quiet s p n z l h q =
+    record {
+      size = rw (quiet-esc q) (sym (part-length s p (n + 2) h));
+      ends = sym (quiet-run l q ∙ run-part s p n z h);
+    }
+
+-- 64 zeros counted
+pub counts-blanks : (z : ℕ) → 0 < z → z ≤ 2 → Counts z (blanks 64) 96 z
+counts-blanks z h l = record { size = sym (blanks-size z h l); ends = sym (blanks-end z h l) }
+
+-- The n bytes of s from p on, after z counted zeros, are being counted: k are passed, with m bytes and the count y behind them. As many zeros stand in s before
+-- the next byte as are counted, or more.
+pub record Passing (s : List ℕ) (p n z m y k : ℕ) : Type 0 where
+  pub within : k ≤ n
+  pub less : y ≤ counted s (p + k)
+  pub counting : Counting z (part s p n) m y (part s (p + k) (n - k))
+
+pub passing-start : (s : List ℕ) (p n z : ℕ) → z ≤ 2 → z ≤ counted s p → Passing s p n z 0 z 0
+passing-start s p n z h l =
+    record { within = omega arith; less = rw (add-zero p) l; counting = rw (add-zero p, sub-zero n) (count-begin z (part s p n) h) }
+
+pub passing-turn : {s : List ℕ} {p n z m y k : ℕ} (w : ℕ) {m′ y′ : ℕ} → Passing s p n z m y k → k + w ≤ n → Counts y (part s (p + k) w) m′ y′ → Passing s p n z (m + m′) y′ (k + w)
+passing-turn {s} {p} {n} {z} {m} {y} {k} w g h c =
+    let e : n - k ≡ w + (n - (k + w)) = omega arith in
+    let f : p + (k + w) ≡ p + k + w = omega arith in
+    record {
+      within = h;
+      less = rw (c .ends, f, counted-part s (p + k) w) (end-run y (counted s (p + k)) (part s (p + k) w) (g .counting .low) (g .less));
+      counting =
+          rw f (count-turn (part s (p + k) w) (part s (p + k + w) (n - (k + w))) (rw (e, part-append s (p + k) w (n - (k + w))) at (g .counting)) c);
+    }
+
+pub passing-end : {s : List ℕ} {p n z m y k : ℕ} {m′ y′ : ℕ} → Passing s p n z m y k → Counts y (part s (p + k) (n - k)) m′ y′ → Counts z (part s p n) (m + m′) y′
+passing-end {s} {p} {n} {k = k} g c = count-end (count-turn (part s (p + k) (n - k)) [] (rw (append-nil (part s (p + k) (n - k))) (g .counting)) c)
+
+-- two payloads counted one behind the other are their concatenation counted
+pub counts-pieces : {z : ℕ} (xs ys : List ℕ) {m y m′ y′ : ℕ} → z ≤ 2 → Counts z xs m y → Counts y ys m′ y′ → Counts z (xs ++ ys) (m + m′) y′
+counts-pieces {z} xs ys {m} h c d =
+    count-end (count-turn ys [] (rw (append-nil ys) (rw (zero-add m) at (count-turn xs ys (count-begin z (xs ++ ys) h) c))) d)

@@ -9,20 +9,33 @@ ghost use Rattle.lists.specs.Part.{part};
 ghost use Rattle.nal_unit.specs.Escape.{escFrom};
 ghost use Rattle.nal_unit.specs.EscapeCode.{counted, blanks, Put};
 
-// Writes 64 zeros of payload behind z counted ones: 32 pairs, each with 03 before one of it, after which as many are counted.
-fn put_zeros(out: &mut [u8], at: usize, z: usize) -> usize
-    requires { ⌜ 0 < z ⌝ }
-    requires { ⌜ z ≡ counted (now out) at ⌝ }
+// Writes 64 zeros of payload behind one counted zero: 32 pairs, each with 03 before its second, after which one is counted again.
+fn put_zeros1(out: &mut [u8], at: usize) -> usize
+    requires { ⌜ counted (now out) at ≡ 1 ⌝ }
     requires { ⌜ at + 96 ≤ length (now out) ⌝ }
     ensures { λ r. ⌜ Put (now (out .entry)) at (blanks 64) (now (out .exit)) r ⌝ }
 {
-    // from the first byte on behind one counted zero, from the second on behind two
     let pairs =
-        b"\0\x03\0\0\x03\0\0\x03\0\0\x03\0\0\x03\0\0\x03\0\0\x03\0\0\x03\0\0\x03\0\0\x03\0\0\x03\0\0\x03\0\0\x03\0\0\x03\0\0\x03\0\0\x03\0\0\x03\0\0\x03\0\0\x03\0\0\x03\0\0\x03\0\0\x03\0\0\x03\0\0\x03\0\0\x03\0\0\x03\0\0\x03\0\0\x03\0\0\x03\0\0\x03\0\0\x03\0\0\x03\0\0\x03";
-    let q = z - 1;
+        b"\0\x03\0\0\x03\0\0\x03\0\0\x03\0\0\x03\0\0\x03\0\0\x03\0\0\x03\0\0\x03\0\0\x03\0\0\x03\0\0\x03\0\0\x03\0\0\x03\0\0\x03\0\0\x03\0\0\x03\0\0\x03\0\0\x03\0\0\x03\0\0\x03\0\0\x03\0\0\x03\0\0\x03\0\0\x03\0\0\x03\0\0\x03\0\0\x03\0\0\x03\0\0\x03\0\0\x03\0\0\x03\0";
     let mut k = 0;
     while k < 96 {
-        out[at + k] = pairs[q + k];
+        out[at + k] = pairs[k];
+        k += 1;
+    }
+    at + 96
+}
+
+// The same behind two counted zeros: each pair has 03 before its first.
+fn put_zeros2(out: &mut [u8], at: usize) -> usize
+    requires { ⌜ counted (now out) at ≡ 2 ⌝ }
+    requires { ⌜ at + 96 ≤ length (now out) ⌝ }
+    ensures { λ r. ⌜ Put (now (out .entry)) at (blanks 64) (now (out .exit)) r ⌝ }
+{
+    let pairs =
+        b"\x03\0\0\x03\0\0\x03\0\0\x03\0\0\x03\0\0\x03\0\0\x03\0\0\x03\0\0\x03\0\0\x03\0\0\x03\0\0\x03\0\0\x03\0\0\x03\0\0\x03\0\0\x03\0\0\x03\0\0\x03\0\0\x03\0\0\x03\0\0\x03\0\0\x03\0\0\x03\0\0\x03\0\0\x03\0\0\x03\0\0\x03\0\0\x03\0\0\x03\0\0\x03\0\0\x03\0\0\x03\0\0";
+    let mut k = 0;
+    while k < 96 {
+        out[at + k] = pairs[k];
         k += 1;
     }
     at + 96
@@ -45,9 +58,9 @@ fn put64(s: &[u8], p: usize, out: &mut [u8], at: usize) -> usize
     if z > 0 {
         if calm::void(s, p, 64) {
             if z == 1 {
-                return put_zeros(out, at, 1);
+                return put_zeros1(out, at);
             }
-            return put_zeros(out, at, 2);
+            return put_zeros2(out, at);
         }
     }
     put::put_bytes(s, p, 64, out, at)

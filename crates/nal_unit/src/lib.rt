@@ -21,7 +21,7 @@ pub enum Escaped {
 pub fn escaped_len(payload: &[u8]) -> usize
     ensures { λ r. ⌜ r ≡ length (esc (now (payload .entry))) ⌝ }
 {
-    let r = count::count_bytes(payload, 0, payload.len(), 0);
+    let r = count::count_slice(payload, 0, payload.len(), 0);
     r.n
 }
 

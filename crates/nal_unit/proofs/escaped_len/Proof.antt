@@ -9,11 +9,11 @@ use Rattle.nal_unit.specs.Escape.{esc}
 use Rattle.nal_unit.proofs.escaped_len.Statement.{statement}
 use Rattle.nal_unit.proofs.escaped_len.Tie as tie
 
-count-bytes-requires : tie.Need-count-bytes-requires
-count-bytes-requires c κs = search needs
+count-slice-requires : tie.Need-count-slice-requires
+count-slice-requires c κs = search needs
 
 returns : tie.Need-returns
-returns c = c .count-bytes .ensures .size ∙ ap (λ (l : List ℕ). length (esc l)) (part-all (c .before .before .args .payload .now))
+returns c = c .count-slice .ensures .size ∙ ap (λ (l : List ℕ). length (esc l)) (part-all (c .before .before .args .payload .now))
 
 pub escaped-len-spec : {M : Type 1} → statement M
-escaped-len-spec = tie.close (tie.spec count-bytes-requires returns)
+escaped-len-spec = tie.close (tie.spec count-slice-requires returns)

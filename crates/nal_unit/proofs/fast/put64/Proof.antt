@@ -28,7 +28,7 @@ zero-room c =
     rw (all-zero c) (blanks-size m (omega (arith, b .zeros-before .ensures)) (counted-most (a .args .out .now) (a .args .at))) in
     omega (arith, a .pre, e)
 
-not-one : (z : ℕ) → (z ≡ 1 → ⊥) → 0 < z → z ≤ 2 → 2 ≡ z
+not-one : (z : ℕ) → (z ≡ 1 → ⊥) → 0 < z → z ≤ 2 → z ≡ 2
 not-one z n h l = either z 1 (λ a. absurd (n (omega arith))) (λ b. omega arith)
 
 calm-requires : tie.Need-calm-requires
@@ -61,22 +61,22 @@ zeros-before-requires c κs = search needs
 void-requires : tie.Need-void-requires
 void-requires c κs = search needs
 
-put-zeros-requires : tie.Need-put-zeros-requires
-put-zeros-requires c κs =
+put-zeros1-requires : tie.Need-put-zeros1-requires
+put-zeros1-requires c κs =
     let z = c .before .before .before .before .before .zeros-before in
-    (omega arith, (sym (c .before .if4 .taken) ∙ z .ensures, zero-room (c .before .before)))
+    (sym (z .ensures) ∙ c .before .if4 .taken, zero-room (c .before .before))
 
 same-length-2 : tie.Need-same-length-2
 same-length-2 c = search needs
 
 returns-2 : tie.Need-returns-2
-returns-2 c = rw (all-zero (c .before .before .before .before .before)) (c .before .before .put-zeros .ensures)
+returns-2 c = rw (all-zero (c .before .before .before .before .before)) (c .before .before .put-zeros1 .ensures)
 
-put-zeros-requires-2 : tie.Need-put-zeros-requires-2
-put-zeros-requires-2 c κs =
+put-zeros2-requires : tie.Need-put-zeros2-requires
+put-zeros2-requires c κs =
     let z = c .before .before .before .before .before .zeros-before in
     let a = S (c .before .before .before .before .before) in
-    (omega arith, (not-one (z .result) (c .before .if4 .left) (omega arith) (rw (z .ensures) (counted-most (a .args .out .now) (a .args .at))) ∙ z .ensures, zero-room (c .before .before)))
+    (sym (z .ensures) ∙ not-one (z .result) (c .before .if4 .left) (omega arith) (rw (z .ensures) (counted-most (a .args .out .now) (a .args .at))), zero-room (c .before .before))
 
 same-length-3 : tie.Need-same-length-3
 same-length-3 c = search needs
@@ -104,10 +104,10 @@ put64-spec =
     returns
     zeros-before-requires
     void-requires
-    put-zeros-requires
+    put-zeros1-requires
     same-length-2
     returns-2
-    put-zeros-requires-2
+    put-zeros2-requires
     same-length-3
     returns-3
     put-bytes-requires
