@@ -573,3 +573,66 @@ passing-end {s} {p} {n} {k = k} g c = count-end (count-turn (part s (p + k) (n -
 pub counts-pieces : {z : ℕ} (xs ys : List ℕ) {m y m′ y′ : ℕ} → z ≤ 2 → Counts z xs m y → Counts y ys m′ y′ → Counts z (xs ++ ys) (m + m′) y′
 counts-pieces {z} xs ys {m} h c d =
     count-end (count-turn ys [] (rw (append-nil ys) (rw (zero-add m) at (count-turn xs ys (count-begin z (xs ++ ys) h) c))) d)
+
+-- a byte over 03 ends the count and is written as it is; so a macroblock's head, 0D 00, begins the count at one, and the last byte, 80, ends a payload
+pub esc-other : (z x : ℕ) (xs : List ℕ) → 3 < x → escFrom z (x ∷ xs) ≡ x ∷ escFrom 0 xs
+unfolding escFrom emit zeros
+esc-other z x xs h = rw (inserts-high z x h, ne-eqb x 0 (λ e. omega arith)) refl
+
+pub esc-head : (z : ℕ) (xs : List ℕ) → escFrom z (13 ∷ 0 ∷ xs) ≡ 13 ∷ 0 ∷ escFrom 1 xs
+unfolding escFrom emit zeros inserts
+esc-head z xs = esc-other z 13 (0 ∷ xs) (omega arith)
+
+pub esc-stop : (z : ℕ) → escFrom z (128 ∷ []) ≡ 128 ∷ []
+esc-stop z = esc-other z 128 [] (omega arith) ∙ ap (λ (l : List ℕ). 128 ∷ l) (esc-nil 0)
+
+-- what opens a unit (B.1.1, 7.3.1): the start code with the zero byte before it, and the header byte
+unfoldable pub opening : ℕ → List ℕ
+opening h = 0 ∷ 0 ∷ 0 ∷ 1 ∷ h ∷ []
+
+-- a unit of the byte stream
+unfoldable pub framed : ℕ → List ℕ → List ℕ
+framed h p = opening h ++ esc p
+
+pub opening-length : (h : ℕ) → length (opening h) ≡ 5
+unfolding opening
+opening-length h = refl
+
+pub framed-length : (h : ℕ) (p : List ℕ) → length (framed h p) ≡ 5 + length (esc p)
+unfolding framed
+framed-length h p = length-append (opening h) (esc p) ∙ rw (opening-length h) refl
+
+-- behind a header byte that is not zero no zero is counted
+pub opening-count : (d : List ℕ) (at h : ℕ) → 0 < h → at ≤ length d → counted (splice d at (opening h)) (at + 5) ≡ 0
+unfolding opening runEnd
+opening-count d at h l r = counted-behind d at (opening h) r ∙ run-other (run (run (run (run (counted d at) 0) 0) 0) 1) h l
+
+-- The unit of the header byte h and the payload p stands at the place `at` of the output that held d.
+pub record Framed (d : List ℕ) (at h : ℕ) (p d′ : List ℕ) (at′ : ℕ) : Type 0 where
+  pub place : at′ ≡ at + length (framed h p)
+  pub bytes : d′ ≡ splice d at (framed h p)
+
+-- opened, then the payload escaped behind, in one piece or in many
+pub frame-room : (d : List ℕ) (at h : ℕ) (p : List ℕ) {d′ : List ℕ} {at′ : ℕ} → 0 < h → at + length (framed h p) ≤ length d → d′ ≡ splice d at (opening h) → at′ ≡ at + 5
+    → at′ + length (escFrom (counted d′ at′) p) ≤ length d′
+frame-room d at h p l r e f =
+    let n : at + 5 + length (esc p) ≤ length d = omega (arith, framed-length h p) in
+    rw (e, f, opening-count d at h l (omega arith), splice-length d at (opening h) (omega (arith, opening-length h))) n
+
+pub frame-put : (d : List ℕ) (at h : ℕ) (p : List ℕ) {d′ d″ : List ℕ} {at′ at″ : ℕ} → 0 < h → at + length (framed h p) ≤ length d → d′ ≡ splice d at (opening h) → at′ ≡ at + 5
+    → Put d′ at′ p d″ at″ → Framed d at h p d″ at″
+unfolding framed
+frame-put d at h p l r e f q =
+    let o : length (opening h) ≡ 5 = opening-length h in
+    let n : at + 5 + length (esc p) ≤ length d = omega (arith, framed-length h p) in
+    let z : counted (splice d at (opening h)) (at + 5) ≡ 0 = opening-count d at h l (omega arith) in
+    record {
+      place = q .place ∙ rw (e, f, z) (omega (arith, framed-length h p));
+      bytes = q .bytes ∙ rw (e, f, z) (rw o at (splice-splice d at (opening h) (esc p) (omega arith)));
+    }
+
+pub open-put : (d : List ℕ) (at h : ℕ) {d′ : List ℕ} → at + 5 ≤ length d → d′ ≡ splice d at (part (0 ∷ 0 ∷ 0 ∷ 1 ∷ []) 0 4) → set d′ (at + 4) h ≡ splice d at (opening h)
+unfolding opening part
+open-put d at h r e =
+    let s : List ℕ = 0 ∷ 0 ∷ 0 ∷ 1 ∷ [] in
+    rw (e, set-splice (splice d at s) (at + 4) h (rw (splice-length d at s (omega arith)) (omega arith))) (splice-splice d at s (h ∷ []) (omega arith))

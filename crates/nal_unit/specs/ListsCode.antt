@@ -13,8 +13,8 @@ use native.Mathlib.Numerals.{add-one}
 use native.Mathlib.Omega.{arith}
 use lib.Dec.{eqb, eqb·suc-zero}
 use lib.Bits.{bitOr, or-zero-l, or-add-and, and-le-r}
-use lib.ListN.{length, take, drop, getD, set, drop-of-length-le}
-use lib.Seq.{take-length, drop-length}
+use lib.ListN.{length, take, drop, getD, set, drop-of-length-le, take-append-drop}
+use lib.Seq.{take-length, drop-length, drop-drop, drop-at, take-at, length-take-le}
 use borrow.Author.Tests.{ne-eqb}
 use Rattle.lists.specs.Fill.{splice, Writing, start-at, put, done-at}
 use Rattle.lists.specs.Part.{part, part-length, part-at, part-append, drop-step}
@@ -71,6 +71,11 @@ copy-turn {d} {at} {v} {out} {k} g h =
 pub copy-end : {d : List ℕ} {at : ℕ} {v out : List ℕ} {k : ℕ} → Copied d at v out k → length v ≤ k → out ≡ splice d at v
 copy-end {d} {at} {v} {out} {k} g h = done-at at v (rw (drop-of-length-le v h) at (g .writing)) (g .low) .0
 
+-- the same where v is a part of s
+pub copy-part : {d : List ℕ} {at : ℕ} {out : List ℕ} {k : ℕ} (s : List ℕ) (p n : ℕ) → Copied d at (part s p n) out k → p + n ≤ length s → k < n
+    → Copied d at (part s p n) (set out (at + k) (getD s (p + k) 0)) (k + 1)
+copy-part {k = k} s p n g h l = rw (part-at s p n k l) at (copy-turn g (rw (part-length s p n h) l))
+
 -- a buffer that is filled whole
 pub splice-whole : (d v : List ℕ) → length v ≡ length d → splice d 0 v ≡ v
 splice-whole d v e = rw (splice-front d v, e, drop-length d) (append-nil v)
@@ -79,7 +84,7 @@ splice-whole d v e = rw (splice-front d v, e, drop-length d) (append-nil v)
 pub load-turn : {d row : List ℕ} {k : ℕ} (s : List ℕ) (p n : ℕ) → Copied d 0 (part s p n) row k → p + n ≤ length s → k < n
     → Copied d 0 (part s p n) (set row k (getD s (p + k) 0)) (k + 1)
 load-turn {d} {row} {k} s p n g h l =
-    rw (zero-add k, part-at s p n k l) at (copy-turn g (rw (part-length s p n h) l))
+    rw (zero-add k) at (copy-part s p n g h l)
 
 pub load-end : {d row : List ℕ} {k : ℕ} (s : List ℕ) (p n : ℕ) → Copied d 0 (part s p n) row k → p + n ≤ length s → length d ≡ n → n ≤ k → row ≡ part s p n
 load-end {d} {row} {k} s p n g h e l =
@@ -127,3 +132,17 @@ flag-end {f} {p} {n} {flag} {k} g h =
 pub flag-or : {f : ℕ → Bool} {p n flag k : ℕ} (x : ℕ) → Flag f p n flag k → k < n → f (p + k) ≡ eqb x 0 → Flag f p n (bitOr flag x) (k + 1)
 flag-or {f} {p} {n} {flag} {k} x g h e =
     record { same = rw (or-zero flag x, and-assoc (eqb flag 0) (eqb x 0) (every f (p + (k + 1)) (n - (k + 1)))) (rw e at (flag-step g h)) }
+
+-- a part written where it stands, and what is read where it was written
+part-drop : (d : List ℕ) (at n : ℕ) → part d at n ++ drop (at + n) d ≡ drop at d
+unfolding part
+part-drop d at n = rw (← drop-drop n at d) (take-append-drop n (drop at d))
+
+pub splice-part : (d : List ℕ) (at n : ℕ) → at + n ≤ length d → splice d at (part d at n) ≡ d
+unfolding splice
+splice-part d at n h = rw (part-length d at n h, part-drop d at n) (take-append-drop at d)
+
+pub part-splice : (d v : List ℕ) {l : List ℕ} (at n : ℕ) → l ≡ splice d at v → length v ≡ n → at ≤ length d → part l at n ≡ v
+unfolding splice part
+part-splice d v at n e f h =
+    rw (e, drop-at (take at d) (v ++ drop (at + length v) d) at (length-take-le at d h)) (take-at v (drop (at + length v) d) n f)

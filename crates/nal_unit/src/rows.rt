@@ -5,6 +5,19 @@ ghost use lib.ListN.{length};
 ghost use Rattle.lists.specs.Fill.{splice};
 ghost use Rattle.lists.specs.Part.{part};
 
+// Copies n bytes from the place p of s to the place `at` of the output.
+pub fn copy(s: &[u8], p: usize, n: usize, out: &mut [u8], at: usize)
+    requires { ⌜ p + n ≤ length (now s) ⌝ }
+    requires { ⌜ at + n ≤ length (now out) ⌝ }
+    ensures { λ _. ⌜ now (out .exit) ≡ splice (now (out .entry)) at (part (now (s .entry)) p n) ⌝ }
+{
+    let mut k = 0;
+    while k < n {
+        out[at + k] = s[p + k];
+        k += 1;
+    }
+}
+
 // Copies 8 bytes from the place p of s to the place `at` of the output.
 pub fn copy8(s: &[u8], p: usize, out: &mut [u8], at: usize)
     requires { ⌜ p + 8 ≤ length (now s) ⌝ }
