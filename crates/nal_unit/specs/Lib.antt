@@ -10,3 +10,6 @@ pub mod Cut
 pub mod Damage
 pub mod Units
 pub mod Plain
+pub mod EscapeCode
+pub mod ListsCode
+pub mod Answers
