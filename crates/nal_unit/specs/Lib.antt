@@ -10,3 +10,5 @@ pub mod Cut
 pub mod Damage
 pub mod Units
 pub mod Plain
+pub mod Kept
+pub mod Taking
