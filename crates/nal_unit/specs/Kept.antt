@@ -6,7 +6,8 @@
 --     insCount s p e    how many are
 --     kept-un           from behind a unit's header up to its end, what is kept is its payload
 --     kept-length       what is kept and what was inserted are the stretch
---     kept-more, kept-plain, kept-end    a stretch by its first byte
+--     kept-more, kept-plain, kept-end    a stretch by its first byte; count-step, count-end the same of the count
+--     kept-some, kept-room               where something is kept there is a byte, where n are kept there are n
 --     kept-append       two stretches side by side
 --     kept-calm         a stretch without inserted bytes is a part of the slice
 -- Assumes nothing.
@@ -20,6 +21,7 @@ use lib.Dec.{leb, eqb, leb·suc-suc}
 use lib.ListN.{length, drop, getD, length-append}
 use borrow.Author.Tests.{le-leb, eqb-true, ne-eqb}
 use Rattle.lists.specs.Part.{part, part-cons, part-none, part-length}
+use Rattle.lists.specs.Test.{either}
 use Rattle.nal_unit.specs.Unescape.{unFrom, un, inserted, counted}
 
 unfoldable pub ins : ℕ → ℕ → ℕ → Bool
@@ -145,6 +147,14 @@ keep-length a b (x ∷ xs) = by (ins a b x) (keep-length b x xs)
 pub kept-length : (s : List ℕ) (p e : ℕ) → p ≤ e → e ≤ length s → length (kept s p e) + insCount s p e ≡ e - p
 unfolding kept insCount
 kept-length s p e h l = keep-length (getD s (p - 2) 0) (getD s (p - 1) 0) (part s p (e - p)) ∙ part-length s p (e - p) (omega arith)
+
+-- where something is kept, the stretch is not at its end
+pub kept-some : (s : List ℕ) (p e : ℕ) → 0 < length (kept s p e) → p < e
+kept-some s p e h = either e p (λ l. absurd (omega (arith, ap length (kept-end s p e l)))) (λ l. l)
+
+-- n bytes of the payload are n bytes of the stretch or more
+pub kept-room : (s : List ℕ) (p e n : ℕ) → p ≤ e → e ≤ length s → n ≤ length (kept s p e) → p + n ≤ e
+kept-room s p e n h l k = omega (arith, kept-length s p e h l)
 
 -- Two stretches side by side
 

@@ -12,3 +12,5 @@ pub mod Units
 pub mod Plain
 pub mod Kept
 pub mod Taking
+pub mod Copying
+pub mod TakingCode

@@ -1,43 +1,25 @@
--- What the calls that read a unit's payload say, by the stretch from the place p up to the unit's end e.
+-- What the calls that read a unit's payload say, of the stretch of the slice s from the place p up to the unit's end e.
 --     Next s p e r             r is the place of the payload's next byte
 --     Passed s p e n r         r is a place behind the payload's next n bytes
 --     Took s p e n d a d′ r    those were written at the place a of a buffer that held d and holds d′, and r is a place behind them
---     ins-bits                 the test of an inserted byte as code makes it, by bits
+--     Stands s e X n p         p is the place of the byte n of the payload X: what a reader that knows X keeps of its place
+--     pass-stretch             a stretch that keeps v; took-stretch, written as v; took-calm, where no byte of it is inserted
+--     stands-start             the place behind a unit's header; stands-pass, stands-took, stands-stretch, stands-calm from there on
 -- Assumes nothing.
 use mathlib.Core.Path.{_≡_, refl, sym, ap, _∙_}
 use mathlib.Core.List.{List, _∷_, _++_}
-use mathlib.Core.Bool.{Bool, true, false, cond, _&&_, and-assoc, and-true, and-false, and-eq-true-iff}
+use mathlib.Core.Bool.{true}
 use Prim.Native.Nat.{ℕ, _+_, _-_, _≤_, _<_}
-use native.Mathlib.Nat.{zero-add}
+use native.Mathlib.Nat.{add-zero}
 use native.Mathlib.Omega.{arith}
-use lib.Bits.{bitOr, bitXor, or-add-and, xor-add-and, xor-self, and-le-l, and-le-r}
 use lib.Dec.{eqb}
-use lib.ListN.{length, take, drop, getD, set, length-append, length-drop}
-use lib.Seq.{take-add, drop-drop, drop-append-add, length-take-le}
-use borrow.Author.Tests.{eqb-true, eqb-false, eq-eqb, ne-eqb}
+use lib.ListN.{length, take, drop, getD, set, length-drop}
+use lib.Seq.{take-add, take-at, drop-at, drop-drop, length-take-le, getD-drop}
+use borrow.Author.Tests.{eqb-true}
 use Rattle.lists.specs.Fill.{splice, splice-none, splice-length, set-splice, splice-splice}
-use Rattle.lists.specs.Test.{either}
-use Rattle.nal_unit.specs.Kept.{ins, insAt, kept, insCount, kept-more, kept-plain, kept-end, kept-append, kept-length, count-step, count-end, count-append}
-
--- no bit is set
-or-none : (m n : ℕ) → eqb (bitOr m n) 0 ≡ eqb m 0 && eqb n 0
-or-none m n = by (eqb m 0) (eqb n 0) refl refl
-  where
-    by : (a b : Bool) → eqb m 0 ≡ a → eqb n 0 ≡ b → eqb (bitOr m n) 0 ≡ a && b
-    by true true e f = eq-eqb (bitOr m n) 0 (omega (arith, eqb-true m 0 e, eqb-true n 0 f, or-add-and m n))
-    by true false e f = ne-eqb (bitOr m n) 0 (λ z. eqb-false n 0 f (omega (arith, or-add-and m n, and-le-l m n)))
-    by false b e f = ne-eqb (bitOr m n) 0 (λ z. eqb-false m 0 e (omega (arith, or-add-and m n, and-le-r m n)))
-
-xor-none : (m n : ℕ) → eqb (bitXor m n) 0 ≡ eqb m n
-xor-none m n = by (eqb m n) refl
-  where
-    by : (a : Bool) → eqb m n ≡ a → eqb (bitXor m n) 0 ≡ a
-    by true e = eq-eqb (bitXor m n) 0 (rw (eqb-true m n e) (xor-self n))
-    by false e = ne-eqb (bitXor m n) 0 (λ z. eqb-false m n e (omega (arith, xor-add-and m n, and-le-l m n, and-le-r m n)))
-
-pub ins-bits : (a b x : ℕ) → eqb (bitOr (bitOr a b) (bitXor x 3)) 0 ≡ ins a b x
-unfolding ins
-ins-bits a b x = rw (or-none (bitOr a b) (bitXor x 3), or-none a b, xor-none x 3) (and-assoc (eqb a 0) (eqb b 0) (eqb x 3))
+use Rattle.lists.specs.Part.{part, part-length}
+use Rattle.nal_unit.specs.Kept.{kept, insCount, kept-un, kept-append, kept-length, kept-calm}
+use Rattle.nal_unit.specs.Unescape.{un}
 
 -- The next byte
 
@@ -45,26 +27,6 @@ pub record Next (s : List ℕ) (p e r : ℕ) : Type 0 where
   pub first : kept s p e ≡ getD s r 0 ∷ kept s (r + 1) e
   pub low : p ≤ r
   pub high : r < e
-
--- where something is kept, the stretch is not at its end
-pub kept-some : (s : List ℕ) (p e : ℕ) → 0 < length (kept s p e) → p < e
-kept-some s p e h = either e p (λ l. absurd (omega (arith, ap length (kept-end s p e l)))) (λ l. l)
-
-pub next-plain : (s : List ℕ) (p e : ℕ) → 2 ≤ p → e ≤ length s → 0 < length (kept s p e) → insAt s p ≡ false → Next s p e p
-next-plain s p e i l h t =
-    let k = kept-some s p e h in
-    record { first = kept-plain s p e (omega arith) k l t; low = omega arith; high = k }
-
--- behind an inserted byte, which is not 0, stands none
-pub next-more : (s : List ℕ) (p e : ℕ) → 2 ≤ p → e ≤ length s → 0 < length (kept s p e) → insAt s p ≡ true → Next s p e (p + 1)
-unfolding insAt ins
-next-more s p e i l h t =
-    let k = kept-more s p e (omega arith) (kept-some s p e h) l t in
-    let n = kept-some s (p + 1) e (rw k at h) in
-    let x : getD s p 0 ≡ 3 = eqb-true (getD s p 0) 3 (and-eq-true-iff (eqb (getD s (p - 1) 0) 0) (eqb (getD s p 0) 3) .0
-    (and-eq-true-iff (eqb (getD s (p - 2) 0) 0) (eqb (getD s (p - 1) 0) 0 && eqb (getD s p 0) 3) .0 t .1) .1) in
-    let q : p + 1 - 1 ≡ p = omega arith in
-    record { first = k ∙ kept-plain s (p + 1) e (omega arith) n l (rw (q, x) (and-false (eqb (getD s (p + 1 - 2) 0) 0))); low = omega arith; high = n }
 
 -- Places
 
@@ -85,6 +47,18 @@ pass-next g = record { left = rw (g .first) refl; low = omega arith; high = omeg
 pub pass-more : {s : List ℕ} {p e n q m r : ℕ} → Passed s p e n q → Passed s q e m r → Passed s p e (n + m) r
 pass-more {s} {p} {e} {n} {q} {m} {r} g h =
     record { left = h .left ∙ rw (g .left) (drop-drop m n (kept s p e)); low = omega arith; high = h .high }
+
+-- a stretch that keeps v, and what is kept behind it
+kept-split : (s : List ℕ) (p e m : ℕ) (v : List ℕ) → 1 ≤ p → p ≤ m → m ≤ e → e ≤ length s → kept s p m ≡ v → kept s p e ≡ v ++ kept s m e
+kept-split s p e m v i h k l f = kept-append s p m e i h k l ∙ ap (λ (x : List ℕ). x ++ kept s m e) f
+
+pub pass-stretch : {s : List ℕ} (p e m n : ℕ) (v : List ℕ) → 1 ≤ p → p ≤ m → m ≤ e → e ≤ length s → kept s p m ≡ v → length v ≡ n → Passed s p e n m
+pass-stretch {s} p e m n v i h k l f w =
+    record {
+      left = rw (kept-split s p e m v i h k l f, drop-at v (kept s m e) n w) refl;
+      low = omega (arith, kept-length s p m h (omega arith), ap length f);
+      high = k;
+    }
 
 -- Bytes taken
 
@@ -119,77 +93,63 @@ took-more {s} {p} {e} {n} {d} {a} {d′} {q} {m} {d″} {r} g h l k =
       place = pass-more (g .place) (h .place);
     }
 
--- Tests of a stretch, byte by byte
+-- a stretch that keeps v, written as v: a calm one as it stands in the slice, one of pairs of zeros as zeros
+pub took-stretch : {s : List ℕ} {d : List ℕ} {a : ℕ} {d′ : List ℕ} (p e m n : ℕ) (v : List ℕ) → 1 ≤ p → p ≤ m → m ≤ e → e ≤ length s → kept s p m ≡ v → length v ≡ n
+    → d′ ≡ splice d a v → Took s p e n d a d′ m
+took-stretch {s} p e m n v i h k l f w g =
+    record { bytes = rw (kept-split s p e m v i h k l f, take-at v (kept s m e) n w) g; place = pass-stretch p e m n v i h k l f w }
 
--- The bytes from p up to q were tested, and the flag f is 0 where none of them is an inserted one.
-pub record Calming (s : List ℕ) (p e f q : ℕ) : Type 0 where
-  pub same : eqb f 0 && eqb (insCount s q e) 0 ≡ eqb (insCount s p e) 0
+-- the payload of n bytes without an inserted one, as a test finds them
+kept-flat : (s : List ℕ) (p n : ℕ) → eqb (insCount s p (p + n)) 0 ≡ true → kept s p (p + n) ≡ part s p n
+kept-flat s p n t =
+    let w : p + n - p ≡ n = omega arith in
+    kept-calm s p (p + n) (eqb-true (insCount s p (p + n)) 0 t) ∙ ap (λ (k : ℕ). part s p k) w
 
-pub calm-start : (s : List ℕ) (p e : ℕ) → Calming s p e 0 p
-calm-start s p e = record { same = refl }
+-- a row of any width where the stretch is calm
+pub took-calm : {s : List ℕ} {d : List ℕ} {a : ℕ} {d′ : List ℕ} (p e n : ℕ) → 1 ≤ p → p + n ≤ e → e ≤ length s → eqb (insCount s p (p + n)) 0 ≡ true
+    → d′ ≡ splice d a (part s p n) → Took s p e n d a d′ (p + n)
+took-calm {s} {d} {a} {d′} p e n i h l t g =
+    took-stretch p e (p + n) n (part s p n) i (omega arith) h l (kept-flat s p n t) (part-length s p n (omega arith)) g
 
-pub calm-keep : {s : List ℕ} {p e f q : ℕ} → Calming s p e f q → 1 ≤ q → q < e → e ≤ length s → insAt s q ≡ false → Calming s p e f (q + 1)
-calm-keep {s} {p} {e} {f} {q} g i h l t = record { same = rw (count-step s q e i h l, t, zero-add (insCount s (q + 1) e)) at (g .same) }
+-- A place in the payload
 
-pub calm-raise : {s : List ℕ} {p e f q : ℕ} → Calming s p e f q → 1 ≤ q → q < e → e ≤ length s → insAt s q ≡ true → Calming s p e 1 (q + 1)
-calm-raise {s} {p} {e} {f} {q} g i h l t =
-    let z : eqb (insCount s q e) 0 ≡ false = ne-eqb (insCount s q e) 0 (λ k. omega (arith, rw t at (count-step s q e i h l))) in
-    record { same = sym (and-false (eqb f 0)) ∙ rw z at (g .same) }
+pub record Stands (s : List ℕ) (e : ℕ) (X : List ℕ) (n p : ℕ) : Type 0 where
+  pub left : kept s p e ≡ drop n X
+  pub low : 2 ≤ p
+  pub high : p ≤ e
+  pub inside : e ≤ length s
 
-pub calm-end : {s : List ℕ} {p e f q : ℕ} → Calming s p e f q → e ≤ q → eqb f 0 ≡ eqb (insCount s p e) 0
-calm-end {s} {p} {e} {f} {q} g h = sym (and-true (eqb f 0)) ∙ rw (count-end s q e h) at (g .same)
+-- behind the header of the unit from o up to e: the payload's first byte
+pub stands-start : (s : List ℕ) (o e : ℕ) → 1 ≤ o → o < e → e ≤ length s → 0 < getD s o 0 → Stands s e (un (drop 1 (part s o (e - o)))) 0 (o + 1)
+stands-start s o e i h l k = record { left = kept-un s o e h l k; low = omega arith; high = omega arith; inside = l }
 
--- The bytes from p up to q were counted, and c of them are inserted ones.
-pub record Counting (s : List ℕ) (p e c q : ℕ) : Type 0 where
-  pub sum : c + insCount s q e ≡ insCount s p e
-  pub low : p + c ≤ q
+-- m bytes further on
+pub stands-pass : {s : List ℕ} {e : ℕ} {X : List ℕ} {n p m q : ℕ} → Stands s e X n p → Passed s p e m q → Stands s e X (n + m) q
+stands-pass {s} {e} {X} {n} {p} {m} {q} g h = record { left = h .left ∙ rw (g .left) (drop-drop m n X); low = omega arith; high = h .high; inside = g .inside }
 
-pub count-start : (s : List ℕ) (p e : ℕ) → Counting s p e 0 p
-count-start s p e = record { sum = omega arith; low = omega arith }
+-- m bytes are there to be taken or passed, if the payload has them
+pub stands-room : {s : List ℕ} {e : ℕ} {X : List ℕ} {n p : ℕ} (m : ℕ) → Stands s e X n p → n + m ≤ length X → m ≤ length (kept s p e)
+stands-room {s} {e} {X} {n} {p} m g h = omega (arith, ap length (g .left), length-drop n X)
 
-pub count-turn : {s : List ℕ} {p e c q c′ : ℕ} {t : Bool} → Counting s p e c q → 1 ≤ q → q < e → e ≤ length s → t ≡ insAt s q → c′ ≡ cond t 1 0 + c → Counting s p e c′ (q + 1)
-count-turn {s} {p} {e} {c} {q} {c′} {t} g i h l f k =
-    record { sum = omega (arith, count-step s q e i h l, ap {B = ℕ} (λ (b : Bool). cond b 1 0) f); low = omega (arith, by t) }
-  where
-    by : (b : Bool) → cond b 1 0 ≤ 1
-    by true = omega arith
-    by false = omega arith
+-- the next of them
+pub stands-byte : {s : List ℕ} {e : ℕ} {X : List ℕ} {n p : ℕ} → Stands s e X n p → getD (kept s p e) 0 0 ≡ getD X n 0
+stands-byte {s} {e} {X} {n} {p} g = rw (g .left, getD-drop n X 0 0, add-zero n) refl
 
--- a stretch at a time
-pub count-more : {s : List ℕ} {p e c q m : ℕ} (r : ℕ) → Counting s p e c q → 1 ≤ q → q ≤ r → r ≤ e → e ≤ length s → m ≡ insCount s q r → Counting s p e (c + m) r
-count-more {s} {p} {e} {c} {q} r g i h k l f =
-    record { sum = omega (arith, count-append s q r e i h k l); low = omega (arith, kept-length s q r h (omega arith)) }
+-- what was taken is a part of the payload
+pub stands-took : {s : List ℕ} {e : ℕ} {X : List ℕ} {n p m : ℕ} {d : List ℕ} {a : ℕ} {d′ : List ℕ} {q : ℕ} → Stands s e X n p → Took s p e m d a d′ q → d′ ≡ splice d a (part X n m)
+unfolding part
+stands-took g h = h .bytes ∙ rw (g .left) refl
 
-pub count-done : {s : List ℕ} {p e c q : ℕ} → Counting s p e c q → e ≤ q → c ≡ insCount s p e
-count-done {s} {p} {e} {c} {q} g h = omega (arith, count-end s q e h)
+-- a stretch that keeps v: there the payload holds v
+pub stands-stretch : {s : List ℕ} {e : ℕ} {X : List ℕ} {n p : ℕ} (q m : ℕ) (v : List ℕ) → Stands s e X n p → p ≤ q → q ≤ e → kept s p q ≡ v → length v ≡ m
+    → (part X n m ≡ v) × Stands s e X (n + m) q
+unfolding part
+stands-stretch {s} {e} {X} {n} {p} q m v g h l f w =
+    let c : drop n X ≡ v ++ kept s q e = sym (g .left) ∙ kept-split s p e q v (omega arith) h l (g .inside) f in
+    (rw (c, take-at v (kept s q e) m w) refl, stands-pass g (pass-stretch p e q m v (omega arith) h l (g .inside) f w))
 
--- Of n bytes to be passed from p on, those before q were, and `left` are still to be passed.
-pub record Skipping (s : List ℕ) (p e n q left : ℕ) : Type 0 where
-  pub rest : drop left (kept s q e) ≡ drop n (kept s p e)
-  pub enough : left ≤ length (kept s q e)
-  pub low : p + n ≤ q + left
-  pub high : q + left ≤ e
-
-pub skip-start : (s : List ℕ) (p e n : ℕ) → p ≤ e → e ≤ length s → n ≤ length (kept s p e) → Skipping s p e n p n
-skip-start s p e n h l k = record { rest = refl; enough = k; low = omega arith; high = omega (arith, kept-length s p e h l) }
-
--- as many bytes of the stretch as are left: what is left then are as many as were inserted among them
-pub skip-turn : {s : List ℕ} {p e n q left : ℕ} → Skipping s p e n q left → 1 ≤ q → e ≤ length s → Skipping s p e n (q + left) (insCount s q (q + left))
-skip-turn {s} {p} {e} {n} {q} {left} g i l =
-    let m = insCount s q (q + left) in
-    let A = kept s q (q + left) in
-    let B = kept s (q + left) e in
-    let w = kept-append s q (q + left) e i (omega arith) (g .high) l in
-    let a : length A + m ≡ left = kept-length s q (q + left) (omega arith) (omega arith) ∙ (omega arith) in
-    let f : left ≡ length A + m = sym a in
-    let k : length (kept s q e) ≡ length A + length B = ap length w ∙ length-append A B in
-    let z : m ≤ length B = omega (arith, g .enough) in
-    record {
-      rest = sym (drop-append-add A B m) ∙ ap (λ (j : ℕ). drop j (A ++ B)) a ∙ ap (λ (j : List ℕ). drop left j) (sym w) ∙ g .rest;
-      enough = z;
-      low = omega arith;
-      high = omega (arith, kept-length s (q + left) e (g .high) l);
-    }
-
-pub skip-end : {s : List ℕ} {p e n q : ℕ} → Skipping s p e n q 0 → Passed s p e n q
-skip-end g = record { left = g .rest; low = omega arith; high = omega arith }
+-- a calm stretch: the payload's bytes are the slice's
+pub stands-calm : {s : List ℕ} {e : ℕ} {X : List ℕ} {n p : ℕ} (m : ℕ) → Stands s e X n p → p + m ≤ e → eqb (insCount s p (p + m)) 0 ≡ true
+    → (part X n m ≡ part s p m) × Stands s e X (n + m) (p + m)
+stands-calm {s} {e} {X} {n} {p} m g h t =
+    stands-stretch (p + m) m (part s p m) g (omega arith) h (kept-flat s p m t) (part-length s p m (omega (arith, g .inside)))

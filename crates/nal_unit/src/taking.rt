@@ -2,14 +2,16 @@
 // exactly if it is 03 and the two bytes before it are 00, and a unit's header is not 0. Each function here looks at the stretch from the place p up to e,
 // the unit's end, and none at a byte before p - 2. What is public is a leaf for proved callers.
 ghost use mathlib.Core.Path.{_≡_};
-ghost use mathlib.Core.Bool.{cond};
-ghost use Prim.Native.Nat.{_+_, _-_, _≤_, _<_};
+ghost use mathlib.Core.Bool.{true, cond};
+ghost use Prim.Native.Nat.{_+_, _-_, _*_, _≤_, _<_};
 ghost use lib.Dec.{eqb};
-ghost use lib.ListN.{length, drop, getD};
+ghost use lib.ListN.{length, drop, getD, replicate};
+ghost use Rattle.lists.specs.Fill.{splice};
 ghost use Rattle.lists.specs.Part.{part};
 ghost use Rattle.nal_unit.specs.Unescape.{un};
 ghost use Rattle.nal_unit.specs.Kept.{insAt, kept, insCount};
 ghost use Rattle.nal_unit.specs.Taking.{Next, Passed, Took};
+ghost use Rattle.nal_unit.specs.TakingCode.{Pair};
 
 // Whether the byte at the place p is an inserted one.
 pub fn inserted_at(s: &[u8], p: usize) -> bool
@@ -50,7 +52,19 @@ pub fn past(s: &[u8], p: usize, e: usize) -> usize
     next_at(s, p, e) + 1
 }
 
-// Takes n bytes of the payload to the place `at` of the output, byte by byte, and answers the place behind them.
+// How many bytes of the payload the byte at the place p is: none where it is an inserted one, else one.
+fn plain_at(s: &[u8], p: usize) -> usize
+    requires { ⌜ (2 ≤ p) × (p < length (now s)) ⌝ }
+    ensures { λ r. ⌜ r ≡ cond (insAt (now (s .entry)) p) 0 1 ⌝ }
+{
+    if inserted_at(s, p) {
+        return 0;
+    }
+    1
+}
+
+// Takes n bytes of the payload to the place `at` of the output, byte by byte, and answers the place behind them. An inserted byte is written too, and the
+// byte behind it is then written over it: no branch turns on the bytes.
 pub fn take_slow(s: &[u8], p: usize, e: usize, n: usize, out: &mut [u8], at: usize) -> usize
     requires { ⌜ (2 ≤ p) × (p ≤ e) × (e ≤ length (now s)) ⌝ }
     requires { ⌜ n ≤ length (kept (now s) p e) ⌝ }
@@ -60,10 +74,9 @@ pub fn take_slow(s: &[u8], p: usize, e: usize, n: usize, out: &mut [u8], at: usi
     let mut q = p;
     let mut i = 0;
     while i < n {
-        let r = next_at(s, q, e);
-        out[at + i] = s[r];
-        q = r + 1;
-        i += 1;
+        out[at + i] = s[q];
+        i += plain_at(s, q);
+        q += 1;
     }
     q
 }
@@ -116,9 +129,9 @@ pub fn count_inserted(s: &[u8], p: usize, e: usize) -> usize
 {
     let mut c: usize = 0;
     let mut q = p;
-    while e - q >= 240 {
-        c += count_few(s, q, 240);
-        q += 240;
+    while e - q >= 224 {
+        c += count_few(s, q, 224);
+        q += 224;
     }
     c + count_few(s, q, e - q)
 }
@@ -146,4 +159,209 @@ pub fn skip(s: &[u8], p: usize, e: usize, n: usize) -> usize
         left = m;
     }
     q
+}
+
+// Fills a row with the bytes of s from the place p on. Rows are copied by way of a local array of their width: two slices are not known to be apart, a local
+// array and a slice are.
+fn load(s: &[u8], p: usize, row: &mut [u8])
+    requires { ⌜ p + length (now row) ≤ length (now s) ⌝ }
+    ensures { λ _. ⌜ now (row .exit) ≡ part (now (s .entry)) p (length (now (row .entry))) ⌝ }
+{
+    let mut k = 0;
+    while k < row.len() {
+        row[k] = s[p + k];
+        k += 1;
+    }
+}
+
+// Writes a row at the place `at` of the output.
+fn store(out: &mut [u8], at: usize, row: &[u8])
+    requires { ⌜ at + length (now row) ≤ length (now out) ⌝ }
+    ensures { λ _. ⌜ now (out .exit) ≡ splice (now (out .entry)) at (now (row .entry)) ⌝ }
+{
+    let mut k = 0;
+    while k < row.len() {
+        out[at + k] = row[k];
+        k += 1;
+    }
+}
+
+// Copies 8 bytes from the place p of s to the place `at` of the output.
+pub fn copy8(s: &[u8], p: usize, out: &mut [u8], at: usize)
+    requires { ⌜ (p + 8 ≤ length (now s)) × (at + 8 ≤ length (now out)) ⌝ }
+    ensures { λ _. ⌜ now (out .exit) ≡ splice (now (out .entry)) at (part (now (s .entry)) p 8) ⌝ }
+{
+    let mut row = [0u8; 8];
+    load(s, p, &mut row);
+    store(out, at, &row);
+}
+
+// Copies 12 bytes from the place p of s to the place `at` of the output.
+pub fn copy12(s: &[u8], p: usize, out: &mut [u8], at: usize)
+    requires { ⌜ (p + 12 ≤ length (now s)) × (at + 12 ≤ length (now out)) ⌝ }
+    ensures { λ _. ⌜ now (out .exit) ≡ splice (now (out .entry)) at (part (now (s .entry)) p 12) ⌝ }
+{
+    let mut row = [0u8; 12];
+    load(s, p, &mut row);
+    store(out, at, &row);
+}
+
+// Copies 16 bytes from the place p of s to the place `at` of the output.
+pub fn copy16(s: &[u8], p: usize, out: &mut [u8], at: usize)
+    requires { ⌜ (p + 16 ≤ length (now s)) × (at + 16 ≤ length (now out)) ⌝ }
+    ensures { λ _. ⌜ now (out .exit) ≡ splice (now (out .entry)) at (part (now (s .entry)) p 16) ⌝ }
+{
+    let mut row = [0u8; 16];
+    load(s, p, &mut row);
+    store(out, at, &row);
+}
+
+// Copies 24 bytes from the place p of s to the place `at` of the output.
+pub fn copy24(s: &[u8], p: usize, out: &mut [u8], at: usize)
+    requires { ⌜ (p + 24 ≤ length (now s)) × (at + 24 ≤ length (now out)) ⌝ }
+    ensures { λ _. ⌜ now (out .exit) ≡ splice (now (out .entry)) at (part (now (s .entry)) p 24) ⌝ }
+{
+    let mut row = [0u8; 24];
+    load(s, p, &mut row);
+    store(out, at, &row);
+}
+
+// Whether the three bytes from the place p on are two zeros of payload and an inserted byte.
+fn pair(s: &[u8], p: usize) -> bool
+    requires { ⌜ (2 ≤ p) × (p + 3 ≤ length (now s)) ⌝ }
+    ensures { λ r. ⌜ (r ≡ true → Pair (now (s .entry)) p) ⌝ }
+{
+    if inserted_at(s, p) {
+        return s[p + 1] | s[p + 2] == 0;
+    }
+    if inserted_at(s, p + 1) {
+        return s[p + 2] == 0;
+    }
+    inserted_at(s, p + 2)
+}
+
+// Whether the 3 * n bytes from the place p on are n pairs of zeros of payload, an inserted byte in each.
+pub fn pairs(s: &[u8], p: usize, n: usize) -> bool
+    requires { ⌜ (2 ≤ p) × (1 ≤ n) × (p + 3 * n ≤ length (now s)) ⌝ }
+    ensures { λ r. ⌜ (r ≡ true → kept (now (s .entry)) p (p + 3 * n) ≡ replicate (2 * n) 0) ⌝ }
+{
+    if !pair(s, p) {
+        return false;
+    }
+    let m = 3 * (n - 1);
+    let mut f: u8 = 0;
+    let mut k = 0;
+    while k < m {
+        if s[p + k] != s[p + k + 3] {
+            f = 1;
+        }
+        k += 1;
+    }
+    f == 0
+}
+
+// Writes n zeros at the place `at` of the output.
+pub fn write_zeros(out: &mut [u8], at: usize, n: usize)
+    requires { ⌜ at + n ≤ length (now out) ⌝ }
+    ensures { λ _. ⌜ now (out .exit) ≡ splice (now (out .entry)) at (replicate n 0) ⌝ }
+{
+    let mut k = 0;
+    while k < n {
+        out[at + k] = 0;
+        k += 1;
+    }
+}
+
+// Takes 2 * n bytes of the payload to the place `at` of the output, where inserted bytes stand among them: zeros at once, others byte by byte.
+fn take_marked(s: &[u8], p: usize, e: usize, n: usize, out: &mut [u8], at: usize) -> usize
+    requires { ⌜ (2 ≤ p) × (p ≤ e) × (e ≤ length (now s)) ⌝ }
+    requires { ⌜ (1 ≤ n) × (2 * n ≤ length (kept (now s) p e)) ⌝ }
+    requires { ⌜ at + 2 * n ≤ length (now out) ⌝ }
+    ensures { λ r. ⌜ Took (now (s .entry)) p e (2 * n) (now (out .entry)) at (now (out .exit)) r ⌝ }
+{
+    if 3 * n <= e - p {
+        if pairs(s, p, n) {
+            write_zeros(out, at, 2 * n);
+            return p + 3 * n;
+        }
+    }
+    take_slow(s, p, e, 2 * n, out, at)
+}
+
+// Takes a row of 8 bytes of the payload to the place `at` of the output, and answers a place behind them.
+pub fn take8(s: &[u8], p: usize, e: usize, out: &mut [u8], at: usize) -> usize
+    requires { ⌜ (2 ≤ p) × (p ≤ e) × (e ≤ length (now s)) ⌝ }
+    requires { ⌜ 8 ≤ length (kept (now s) p e) ⌝ }
+    requires { ⌜ at + 8 ≤ length (now out) ⌝ }
+    ensures { λ r. ⌜ Took (now (s .entry)) p e 8 (now (out .entry)) at (now (out .exit)) r ⌝ }
+{
+    if calm(s, p, 8) {
+        copy8(s, p, out, at);
+        return p + 8;
+    }
+    take_marked(s, p, e, 4, out, at)
+}
+
+// Takes a row of 12 bytes of the payload to the place `at` of the output, and answers a place behind them.
+pub fn take12(s: &[u8], p: usize, e: usize, out: &mut [u8], at: usize) -> usize
+    requires { ⌜ (2 ≤ p) × (p ≤ e) × (e ≤ length (now s)) ⌝ }
+    requires { ⌜ 12 ≤ length (kept (now s) p e) ⌝ }
+    requires { ⌜ at + 12 ≤ length (now out) ⌝ }
+    ensures { λ r. ⌜ Took (now (s .entry)) p e 12 (now (out .entry)) at (now (out .exit)) r ⌝ }
+{
+    if calm(s, p, 12) {
+        copy12(s, p, out, at);
+        return p + 12;
+    }
+    take_marked(s, p, e, 6, out, at)
+}
+
+// Takes a row of 16 bytes of the payload to the place `at` of the output, and answers a place behind them.
+pub fn take16(s: &[u8], p: usize, e: usize, out: &mut [u8], at: usize) -> usize
+    requires { ⌜ (2 ≤ p) × (p ≤ e) × (e ≤ length (now s)) ⌝ }
+    requires { ⌜ 16 ≤ length (kept (now s) p e) ⌝ }
+    requires { ⌜ at + 16 ≤ length (now out) ⌝ }
+    ensures { λ r. ⌜ Took (now (s .entry)) p e 16 (now (out .entry)) at (now (out .exit)) r ⌝ }
+{
+    if calm(s, p, 16) {
+        copy16(s, p, out, at);
+        return p + 16;
+    }
+    take_marked(s, p, e, 8, out, at)
+}
+
+// Takes a row of 24 bytes of the payload to the place `at` of the output, and answers a place behind them.
+pub fn take24(s: &[u8], p: usize, e: usize, out: &mut [u8], at: usize) -> usize
+    requires { ⌜ (2 ≤ p) × (p ≤ e) × (e ≤ length (now s)) ⌝ }
+    requires { ⌜ 24 ≤ length (kept (now s) p e) ⌝ }
+    requires { ⌜ at + 24 ≤ length (now out) ⌝ }
+    ensures { λ r. ⌜ Took (now (s .entry)) p e 24 (now (out .entry)) at (now (out .exit)) r ⌝ }
+{
+    if calm(s, p, 24) {
+        copy24(s, p, out, at);
+        return p + 24;
+    }
+    take_marked(s, p, e, 12, out, at)
+}
+
+// Takes n bytes of the payload to the place `at` of the output, the widths of a picture's rows by their own functions, and answers a place behind them.
+pub fn take_row(s: &[u8], p: usize, e: usize, n: usize, out: &mut [u8], at: usize) -> usize
+    requires { ⌜ (2 ≤ p) × (p ≤ e) × (e ≤ length (now s)) ⌝ }
+    requires { ⌜ n ≤ length (kept (now s) p e) ⌝ }
+    requires { ⌜ at + n ≤ length (now out) ⌝ }
+    ensures { λ r. ⌜ Took (now (s .entry)) p e n (now (out .entry)) at (now (out .exit)) r ⌝ }
+{
+    if n == 16 {
+        return take16(s, p, e, out, at);
+    }
+    if n == 8 {
+        return take8(s, p, e, out, at);
+    }
+    if n == 24 {
+        return take24(s, p, e, out, at);
+    }
+    if n == 12 {
+        return take12(s, p, e, out, at);
+    }
+    take_slow(s, p, e, n, out, at)
 }

@@ -5,7 +5,7 @@ use Prim.Native.Nat.{_+_, _-_, _≤_}
 use native.Mathlib.Nat.{add-zero, add-assoc}
 use native.Mathlib.Omega.{arith}
 use borrow.Author.Needs.{needs}
-use Rattle.nal_unit.specs.Taking.{Calming, calm-start, calm-keep, calm-raise, calm-end}
+use Rattle.nal_unit.specs.TakingCode.{Calming, calm-start, calm-keep, calm-raise, calm-end}
 use Rattle.nal_unit.proofs.taking.calm.Statement.{statement}
 use Rattle.nal_unit.proofs.taking.calm.Tie as tie
 

@@ -3,7 +3,7 @@ use Prim.Native.Nat.{_+_, _-_, _≤_}
 use native.Mathlib.Nat.{add-zero, add-assoc}
 use native.Mathlib.Omega.{arith}
 use borrow.Author.Needs.{needs}
-use Rattle.nal_unit.specs.Taking.{Counting, count-start, count-turn, count-done}
+use Rattle.nal_unit.specs.TakingCode.{Counting, count-start, count-turn, count-done}
 use Rattle.nal_unit.proofs.taking.count_few.Statement.{statement}
 use Rattle.nal_unit.proofs.taking.count_few.Tie as tie
 

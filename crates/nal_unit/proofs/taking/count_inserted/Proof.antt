@@ -4,7 +4,7 @@ use Prim.Native.Nat.{ℕ, _+_, _-_, _≤_}
 use native.Mathlib.Omega.{arith}
 use borrow.Author.Needs.{needs}
 use Rattle.nal_unit.specs.Kept.{insCount}
-use Rattle.nal_unit.specs.Taking.{Counting, count-start, count-more, count-done}
+use Rattle.nal_unit.specs.TakingCode.{Counting, count-start, count-more, count-done}
 use Rattle.nal_unit.proofs.taking.count_inserted.Statement.{statement}
 use Rattle.nal_unit.proofs.taking.count_inserted.Tie as tie
 
@@ -27,8 +27,8 @@ count-few-requires c κs = (omega arith, omega arith, omega arith)
 
 -- what is counted after one more part
 next : (c : tie.After-count-few Inv-loop μ-loop)
-    → let k = c .before .before in let a = k .before .before .args in Counting (a .s .now) (a .p) (a .e) (k .loop .c + c .count-few .result) (k .loop .q + 240)
-next c = let k = c .before .before in count-more (k .loop .q + 240) (k .loop .inv .1) (omega arith) (omega arith) (omega arith) (omega arith) (c .count-few .ensures)
+    → let k = c .before .before in let a = k .before .before .args in Counting (a .s .now) (a .p) (a .e) (k .loop .c + c .count-few .result) (k .loop .q + 224)
+next c = let k = c .before .before in count-more (k .loop .q + 224) (k .loop .inv .1) (omega arith) (omega arith) (omega arith) (omega arith) (c .count-few .ensures)
 
 add-c : tie.Need-add-c Inv-loop μ-loop
 add-c c = let g = next c in omega arith

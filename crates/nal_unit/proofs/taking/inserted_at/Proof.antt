@@ -3,7 +3,7 @@ use borrow.Author.Needs.{needs}
 use lib.ListN.{getD}
 use Prim.Native.Nat.{_-_}
 use Rattle.nal_unit.specs.Kept.{insAt}
-use Rattle.nal_unit.specs.Taking.{ins-bits}
+use Rattle.nal_unit.specs.TakingCode.{ins-bits}
 use Rattle.nal_unit.proofs.taking.inserted_at.Statement.{statement}
 use Rattle.nal_unit.proofs.taking.inserted_at.Tie as tie
 

@@ -2,7 +2,8 @@
 use mathlib.Core.Path.{sym, _∙_}
 use Prim.Native.Nat.{_<_}
 use native.Mathlib.Omega.{arith}
-use Rattle.nal_unit.specs.Taking.{kept-some, next-plain, next-more}
+use Rattle.nal_unit.specs.Kept.{kept-some}
+use Rattle.nal_unit.specs.TakingCode.{next-plain, next-more}
 use Rattle.nal_unit.proofs.taking.next_at.Statement.{statement}
 use Rattle.nal_unit.proofs.taking.next_at.Tie as tie
 

@@ -3,7 +3,7 @@ use mathlib.Core.Path.{_≡_}
 use Prim.Native.Nat.{_-_, _≤_}
 use native.Mathlib.Omega.{arith}
 use borrow.Author.Needs.{needs}
-use Rattle.nal_unit.specs.Taking.{Skipping, skip-start, skip-turn, skip-end}
+use Rattle.nal_unit.specs.TakingCode.{Skipping, skip-start, skip-turn, skip-end}
 use Rattle.nal_unit.proofs.taking.skip.Statement.{statement}
 use Rattle.nal_unit.proofs.taking.skip.Tie as tie
 

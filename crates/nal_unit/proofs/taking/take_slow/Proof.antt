@@ -1,71 +1,66 @@
--- `nal_unit::taking::take_slow` meets its contract: after i turns, i bytes were taken. Assumes nothing.
-use mathlib.Core.Path.{_≡_, ap}
-use Prim.Native.Nat.{_+_, _-_, _≤_, _<_}
+-- `nal_unit::taking::take_slow` meets its contract: i bytes are taken, and what stands behind them is written over until all are. Assumes nothing.
+use Prim.Native.Nat.{_+_, _-_, _<_}
 use native.Mathlib.Omega.{arith}
-use lib.ListN.{length, length-drop}
+use lib.ListN.{getD, set}
 use borrow.Author.Needs.{needs}
-use Rattle.nal_unit.specs.Kept.{kept}
-use Rattle.nal_unit.specs.Taking.{Took, took-length, took-none, took-next, took-more}
+use Rattle.nal_unit.specs.Kept.{kept-some}
+use Rattle.nal_unit.specs.TakingCode.{Taking, taking-start, taking-length, taking-some, taking-turn, taking-end}
 use Rattle.nal_unit.proofs.taking.take_slow.Statement.{statement}
 use Rattle.nal_unit.proofs.taking.take_slow.Tie as tie
 
 abbrev Inv-loop : tie.InvT-loop
-Inv-loop s p e n out₀ at q₀ i₀ out q i = (i ≤ n) × Took s p e i out₀ at out q
+Inv-loop s p e n out₀ at q₀ i₀ out q i = Taking s p e n out₀ at out q i
 
 abbrev μ-loop : tie.MeasureT-loop
-μ-loop s p e n out₀ at q₀ i₀ out q i = n - i
+μ-loop s p e n out₀ at q₀ i₀ out q i = e - q
 
 abbrev S : tie.At-loop Inv-loop μ-loop → tie.Start Inv-loop μ-loop
 S k = k .before .before .before
 
-long : (k : tie.At-loop Inv-loop μ-loop) → length (k .loop .out) ≡ length (S k .args .out .now)
-long k = took-length (k .loop .inv .1) (omega arith) (omega arith)
-
--- what is still to be taken is there
-some : (k : tie.In-loop Inv-loop μ-loop) → 0 < length (kept (S (k .before) .args .s .now) (k .before .loop .q) (S (k .before) .args .e))
-some k =
-    let a = S (k .before) .args in
-    omega (arith, ap length (k .before .loop .inv .1 .place .left), length-drop (k .before .loop .i) (kept (a .s .now) (a .p) (a .e)))
+-- in a turn the place is before the unit's end
+inside : (k : tie.In-loop Inv-loop μ-loop) → k .before .loop .q < S (k .before) .args .e
+inside k = let a = S (k .before) .args in kept-some (a .s .now) (k .before .loop .q) (a .e) (taking-some (k .before .loop .inv) (k .loop-test .taken))
 
 loop-holds : tie.Need-loop-holds Inv-loop μ-loop
 loop-holds c =
     let a = c .before .before .args in
-    (search needs, took-none (a .s .now) (a .p) (a .e) (a .out .now) (a .at) (omega arith))
-
-next-at-requires : tie.Need-next-at-requires Inv-loop μ-loop
-next-at-requires c κs = ((omega arith, omega arith), some c)
+    taking-start (a .s .now) (a .p) (a .e) (a .n) (a .out .now) (a .at) (omega arith) (omega arith) (omega arith)
 
 shared-slice-read-out : tie.Need-shared-slice-read-out Inv-loop μ-loop
-shared-slice-read-out c = search needs
+shared-slice-read-out c = omega (arith, inside (c .before))
 
 add-out : tie.Need-add-out Inv-loop μ-loop
 add-out c = search needs
 
 slice-write-out : tie.Need-slice-write-out Inv-loop μ-loop
-slice-write-out c = omega (arith, long (c .before .before .before))
+slice-write-out c = omega (arith, taking-length (c .before .before .loop .inv))
 
-add-q : tie.Need-add-q Inv-loop μ-loop
-add-q c = search needs
+plain-at-requires : tie.Need-plain-at-requires Inv-loop μ-loop
+plain-at-requires c κs = let i = inside (c .before) in (omega arith, omega arith)
+
+next : (c : tie.After-plain-at Inv-loop μ-loop)
+    → let k = c .before .before .before in
+    let a = S k .args in
+    Taking (a .s .now) (a .p) (a .e) (a .n) (a .out .now) (a .at) (set (k .loop .out) (a .at + k .loop .i) (getD (a .s .now) (k .loop .q) 0)) (k .loop .q + 1) (k .loop .i + c .plain-at .result)
+next c = let k = c .before .before in taking-turn (k .before .loop .inv) (k .loop-test .taken) (omega arith) (omega arith) (c .plain-at .ensures)
 
 add-i : tie.Need-add-i Inv-loop μ-loop
-add-i c = search needs
+add-i c = let g = next c in omega arith
+
+add-q : tie.Need-add-q Inv-loop μ-loop
+add-q c = let i = inside (c .before .before) in omega arith
 
 loop-less : tie.Need-loop-less Inv-loop μ-loop
-loop-less c = search needs
+loop-less c = let i = inside (c .before .before) in omega arith
 
 loop-again : tie.Need-loop-again Inv-loop μ-loop
-loop-again c =
-    let k = c .before .before .before in
-    let g = took-next (k .loop .out) (S k .args .at + k .loop .i) (c .before .next-at .ensures) (omega (arith, long k)) in
-    (search needs, took-more (k .loop .inv .1) g (omega arith) (omega arith))
+loop-again c = next c
 
 same-length : tie.Need-same-length Inv-loop μ-loop
-same-length c = long (c .before)
+same-length c = taking-length (c .before .loop .inv)
 
 returns : tie.Need-returns Inv-loop μ-loop
-returns c =
-    let e : c .before .loop .i ≡ S (c .before) .args .n = omega arith in
-    rw e at (c .before .loop .inv .1)
+returns c = taking-end (c .before .loop .inv) (c .loop-test .left)
 
 pub take-slow-spec : {M : Type 1} → statement M
 take-slow-spec =
@@ -74,12 +69,12 @@ take-slow-spec =
     Inv-loop
     μ-loop
     loop-holds
-    next-at-requires
     shared-slice-read-out
     add-out
     slice-write-out
-    add-q
+    plain-at-requires
     add-i
+    add-q
     loop-less
     loop-again
     same-length
