@@ -13,3 +13,7 @@ pub mod Plain
 pub mod EscapeCode
 pub mod ListsCode
 pub mod Answers
+pub mod Kept
+pub mod Taking
+pub mod Copying
+pub mod TakingCode

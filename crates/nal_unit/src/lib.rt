@@ -4,6 +4,7 @@ pub mod count;
 pub mod fast;
 pub mod put;
 pub mod rows;
+pub mod taking;
 pub mod unit;
 
 ghost use mathlib.Core.Path.{_≡_};

@@ -1,0 +1,68 @@
+-- `nal_unit::taking::load` meets its contract: after k turns, k bytes of the row are filled. Assumes nothing.
+use mathlib.Core.Path.{_≡_}
+use Prim.Native.Nat.{_-_, _≤_}
+use native.Mathlib.Nat.{zero-add}
+use native.Mathlib.Omega.{arith}
+use lib.ListN.{length}
+use borrow.Author.Needs.{needs}
+use Rattle.nal_unit.specs.Copying.{Copied, copied-none, copied-next, copied-length, copied-row}
+use Rattle.nal_unit.proofs.taking.load.Statement.{statement}
+use Rattle.nal_unit.proofs.taking.load.Tie as tie
+
+abbrev Inv-loop : tie.InvT-loop
+Inv-loop s p row₀ k₀ row k = (k ≤ length row₀) × Copied row₀ 0 s p k row
+
+abbrev μ-loop : tie.MeasureT-loop
+μ-loop s p row₀ k₀ row k = length row₀ - k
+
+long : (c : tie.At-loop Inv-loop μ-loop) → length (c .loop .row) ≡ length (c .before .args .row .now)
+long c = copied-length (c .loop .inv .1)
+
+loop-holds : tie.Need-loop-holds Inv-loop μ-loop
+loop-holds c = (search needs, copied-none (c .args .row .now) 0 (c .args .s .now) (c .args .p) (omega arith) (omega arith))
+
+add-row : tie.Need-add-row Inv-loop μ-loop
+add-row c = omega (arith, long (c .before))
+
+shared-slice-read-row : tie.Need-shared-slice-read-row Inv-loop μ-loop
+shared-slice-read-row c = omega (arith, long (c .before .before))
+
+slice-write-row : tie.Need-slice-write-row Inv-loop μ-loop
+slice-write-row c = search needs
+
+add-k : tie.Need-add-k Inv-loop μ-loop
+add-k c = omega (arith, long (c .before .before))
+
+loop-less : tie.Need-loop-less Inv-loop μ-loop
+loop-less c = omega (arith, long (c .before .before))
+
+loop-again : tie.Need-loop-again Inv-loop μ-loop
+loop-again c =
+    let k = c .before .before in
+    let l = long k in
+    (omega arith, rw (zero-add (k .loop .k)) at (copied-next (k .loop .inv .1) (omega arith) (omega arith)))
+
+same-length : tie.Need-same-length Inv-loop μ-loop
+same-length c = long (c .before)
+
+returns : tie.Need-returns Inv-loop μ-loop
+returns c =
+    let k = c .before in
+    let e : k .loop .k ≡ length (k .before .args .row .now) = omega (arith, long k) in
+    copied-row (rw e at (k .loop .inv .1)) (omega arith)
+
+pub load-spec : {M : Type 1} → statement M
+load-spec =
+    tie.close
+    (tie.spec
+    Inv-loop
+    μ-loop
+    loop-holds
+    add-row
+    shared-slice-read-row
+    slice-write-row
+    add-k
+    loop-less
+    loop-again
+    same-length
+    returns)

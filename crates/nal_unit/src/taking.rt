@@ -1,0 +1,367 @@
+// Reading a unit's payload by the places of the slice that holds the unit (7.3.1). No payload is kept and no count is carried: a byte is an inserted one
+// exactly if it is 03 and the two bytes before it are 00, and a unit's header is not 0. Each function here looks at the stretch from the place p up to e,
+// the unit's end, and none at a byte before p - 2. What is public is a leaf for proved callers.
+ghost use mathlib.Core.Path.{_≡_};
+ghost use mathlib.Core.Bool.{true, cond};
+ghost use Prim.Native.Nat.{_+_, _-_, _*_, _≤_, _<_};
+ghost use lib.Dec.{eqb};
+ghost use lib.ListN.{length, drop, getD, replicate};
+ghost use Rattle.lists.specs.Fill.{splice};
+ghost use Rattle.lists.specs.Part.{part};
+ghost use Rattle.nal_unit.specs.Unescape.{un};
+ghost use Rattle.nal_unit.specs.Kept.{insAt, kept, insCount};
+ghost use Rattle.nal_unit.specs.Taking.{Next, Passed, Took};
+ghost use Rattle.nal_unit.specs.TakingCode.{Pair};
+
+// Whether the byte at the place p is an inserted one.
+pub fn inserted_at(s: &[u8], p: usize) -> bool
+    requires { ⌜ (2 ≤ p) × (p < length (now s)) ⌝ }
+    ensures { λ r. ⌜ r ≡ insAt (now (s .entry)) p ⌝ }
+{
+    s[p - 2] | s[p - 1] | (s[p] ^ 3) == 0
+}
+
+// The place of the payload's next byte. Two inserted bytes never stand side by side.
+pub fn next_at(s: &[u8], p: usize, e: usize) -> usize
+    requires { ⌜ (2 ≤ p) × (e ≤ length (now s)) ⌝ }
+    requires { ⌜ 0 < length (kept (now s) p e) ⌝ }
+    ensures { λ r. ⌜ Next (now (s .entry)) p e r ⌝ }
+{
+    if inserted_at(s, p) {
+        return p + 1;
+    }
+    p
+}
+
+// The payload's next byte.
+pub fn byte_at(s: &[u8], p: usize, e: usize) -> u8
+    requires { ⌜ (2 ≤ p) × (e ≤ length (now s)) ⌝ }
+    requires { ⌜ 0 < length (kept (now s) p e) ⌝ }
+    ensures { λ r. ⌜ r ≡ getD (kept (now (s .entry)) p e) 0 0 ⌝ }
+{
+    let q = next_at(s, p, e);
+    s[q]
+}
+
+// The place behind the payload's next byte.
+pub fn past(s: &[u8], p: usize, e: usize) -> usize
+    requires { ⌜ (2 ≤ p) × (e ≤ length (now s)) ⌝ }
+    requires { ⌜ 0 < length (kept (now s) p e) ⌝ }
+    ensures { λ r. ⌜ Passed (now (s .entry)) p e 1 r ⌝ }
+{
+    next_at(s, p, e) + 1
+}
+
+// How many bytes of the payload the byte at the place p is: none where it is an inserted one, else one.
+fn plain_at(s: &[u8], p: usize) -> usize
+    requires { ⌜ (2 ≤ p) × (p < length (now s)) ⌝ }
+    ensures { λ r. ⌜ r ≡ cond (insAt (now (s .entry)) p) 0 1 ⌝ }
+{
+    if inserted_at(s, p) {
+        return 0;
+    }
+    1
+}
+
+// Takes n bytes of the payload to the place `at` of the output, byte by byte, and answers the place behind them. An inserted byte is written too, and the
+// byte behind it is then written over it: no branch turns on the bytes.
+pub fn take_slow(s: &[u8], p: usize, e: usize, n: usize, out: &mut [u8], at: usize) -> usize
+    requires { ⌜ (2 ≤ p) × (p ≤ e) × (e ≤ length (now s)) ⌝ }
+    requires { ⌜ n ≤ length (kept (now s) p e) ⌝ }
+    requires { ⌜ at + n ≤ length (now out) ⌝ }
+    ensures { λ r. ⌜ Took (now (s .entry)) p e n (now (out .entry)) at (now (out .exit)) r ⌝ }
+{
+    let mut q = p;
+    let mut i = 0;
+    while i < n {
+        out[at + i] = s[q];
+        i += plain_at(s, q);
+        q += 1;
+    }
+    q
+}
+
+// Whether none of the n bytes from the place p on is an inserted one.
+pub fn calm(s: &[u8], p: usize, n: usize) -> bool
+    requires { ⌜ (2 ≤ p) × (p + n ≤ length (now s)) ⌝ }
+    ensures { λ r. ⌜ r ≡ eqb (insCount (now (s .entry)) p (p + n)) 0 ⌝ }
+{
+    let mut f: u8 = 0;
+    let mut k = 0;
+    while k < n {
+        if inserted_at(s, p + k) {
+            f = 1;
+        }
+        k += 1;
+    }
+    f == 0
+}
+
+// The count c, and one more where t is true.
+fn more(c: u8, t: bool) -> u8
+    requires { ⌜ c < 255 ⌝ }
+    ensures { λ r. ⌜ r ≡ cond t 1 0 + c ⌝ }
+{
+    if t {
+        return c + 1;
+    }
+    c
+}
+
+// How many of the n bytes from the place p on are inserted ones.
+fn count_few(s: &[u8], p: usize, n: usize) -> usize
+    requires { ⌜ (2 ≤ p) × (n ≤ 255) × (p + n ≤ length (now s)) ⌝ }
+    ensures { λ r. ⌜ r ≡ insCount (now (s .entry)) p (p + n) ⌝ }
+{
+    let mut c: u8 = 0;
+    let mut k = 0;
+    while k < n {
+        c = more(c, inserted_at(s, p + k));
+        k += 1;
+    }
+    c as usize
+}
+
+// How many of the bytes from the place p up to e are inserted ones.
+pub fn count_inserted(s: &[u8], p: usize, e: usize) -> usize
+    requires { ⌜ (2 ≤ p) × (p ≤ e) × (e ≤ length (now s)) ⌝ }
+    ensures { λ r. ⌜ r ≡ insCount (now (s .entry)) p e ⌝ }
+{
+    let mut c: usize = 0;
+    let mut q = p;
+    while e - q >= 224 {
+        c += count_few(s, q, 224);
+        q += 224;
+    }
+    c + count_few(s, q, e - q)
+}
+
+// The length of the payload of the unit that begins with its header at o and ends at e.
+pub fn payload_len(s: &[u8], o: usize, e: usize) -> usize
+    requires { ⌜ (1 ≤ o) × (o < e) × (e ≤ length (now s)) ⌝ }
+    requires { ⌜ 0 < getD (now s) o 0 ⌝ }
+    ensures { λ r. ⌜ r ≡ length (un (drop 1 (part (now (s .entry)) o (e - o)))) ⌝ }
+{
+    e - (o + 1) - count_inserted(s, o + 1, e)
+}
+
+// A place behind the payload's next n bytes. As many bytes of the stretch are passed, and then as many again as were inserted among them.
+pub fn skip(s: &[u8], p: usize, e: usize, n: usize) -> usize
+    requires { ⌜ (2 ≤ p) × (p ≤ e) × (e ≤ length (now s)) ⌝ }
+    requires { ⌜ n ≤ length (kept (now s) p e) ⌝ }
+    ensures { λ r. ⌜ Passed (now (s .entry)) p e n r ⌝ }
+{
+    let mut q = p;
+    let mut left = n;
+    while left > 0 {
+        let m = count_inserted(s, q, q + left);
+        q += left;
+        left = m;
+    }
+    q
+}
+
+// Fills a row with the bytes of s from the place p on. Rows are copied by way of a local array of their width: two slices are not known to be apart, a local
+// array and a slice are.
+fn load(s: &[u8], p: usize, row: &mut [u8])
+    requires { ⌜ p + length (now row) ≤ length (now s) ⌝ }
+    ensures { λ _. ⌜ now (row .exit) ≡ part (now (s .entry)) p (length (now (row .entry))) ⌝ }
+{
+    let mut k = 0;
+    while k < row.len() {
+        row[k] = s[p + k];
+        k += 1;
+    }
+}
+
+// Writes a row at the place `at` of the output.
+fn store(out: &mut [u8], at: usize, row: &[u8])
+    requires { ⌜ at + length (now row) ≤ length (now out) ⌝ }
+    ensures { λ _. ⌜ now (out .exit) ≡ splice (now (out .entry)) at (now (row .entry)) ⌝ }
+{
+    let mut k = 0;
+    while k < row.len() {
+        out[at + k] = row[k];
+        k += 1;
+    }
+}
+
+// Copies 8 bytes from the place p of s to the place `at` of the output.
+pub fn copy8(s: &[u8], p: usize, out: &mut [u8], at: usize)
+    requires { ⌜ (p + 8 ≤ length (now s)) × (at + 8 ≤ length (now out)) ⌝ }
+    ensures { λ _. ⌜ now (out .exit) ≡ splice (now (out .entry)) at (part (now (s .entry)) p 8) ⌝ }
+{
+    let mut row = [0u8; 8];
+    load(s, p, &mut row);
+    store(out, at, &row);
+}
+
+// Copies 12 bytes from the place p of s to the place `at` of the output.
+pub fn copy12(s: &[u8], p: usize, out: &mut [u8], at: usize)
+    requires { ⌜ (p + 12 ≤ length (now s)) × (at + 12 ≤ length (now out)) ⌝ }
+    ensures { λ _. ⌜ now (out .exit) ≡ splice (now (out .entry)) at (part (now (s .entry)) p 12) ⌝ }
+{
+    let mut row = [0u8; 12];
+    load(s, p, &mut row);
+    store(out, at, &row);
+}
+
+// Copies 16 bytes from the place p of s to the place `at` of the output.
+pub fn copy16(s: &[u8], p: usize, out: &mut [u8], at: usize)
+    requires { ⌜ (p + 16 ≤ length (now s)) × (at + 16 ≤ length (now out)) ⌝ }
+    ensures { λ _. ⌜ now (out .exit) ≡ splice (now (out .entry)) at (part (now (s .entry)) p 16) ⌝ }
+{
+    let mut row = [0u8; 16];
+    load(s, p, &mut row);
+    store(out, at, &row);
+}
+
+// Copies 24 bytes from the place p of s to the place `at` of the output.
+pub fn copy24(s: &[u8], p: usize, out: &mut [u8], at: usize)
+    requires { ⌜ (p + 24 ≤ length (now s)) × (at + 24 ≤ length (now out)) ⌝ }
+    ensures { λ _. ⌜ now (out .exit) ≡ splice (now (out .entry)) at (part (now (s .entry)) p 24) ⌝ }
+{
+    let mut row = [0u8; 24];
+    load(s, p, &mut row);
+    store(out, at, &row);
+}
+
+// Whether the three bytes from the place p on are two zeros of payload and an inserted byte.
+fn pair(s: &[u8], p: usize) -> bool
+    requires { ⌜ (2 ≤ p) × (p + 3 ≤ length (now s)) ⌝ }
+    ensures { λ r. ⌜ (r ≡ true → Pair (now (s .entry)) p) ⌝ }
+{
+    if inserted_at(s, p) {
+        return s[p + 1] | s[p + 2] == 0;
+    }
+    if inserted_at(s, p + 1) {
+        return s[p + 2] == 0;
+    }
+    inserted_at(s, p + 2)
+}
+
+// Whether the 3 * n bytes from the place p on are n pairs of zeros of payload, an inserted byte in each.
+pub fn pairs(s: &[u8], p: usize, n: usize) -> bool
+    requires { ⌜ (2 ≤ p) × (1 ≤ n) × (p + 3 * n ≤ length (now s)) ⌝ }
+    ensures { λ r. ⌜ (r ≡ true → kept (now (s .entry)) p (p + 3 * n) ≡ replicate (2 * n) 0) ⌝ }
+{
+    if !pair(s, p) {
+        return false;
+    }
+    let m = 3 * (n - 1);
+    let mut f: u8 = 0;
+    let mut k = 0;
+    while k < m {
+        if s[p + k] != s[p + k + 3] {
+            f = 1;
+        }
+        k += 1;
+    }
+    f == 0
+}
+
+// Writes n zeros at the place `at` of the output.
+pub fn write_zeros(out: &mut [u8], at: usize, n: usize)
+    requires { ⌜ at + n ≤ length (now out) ⌝ }
+    ensures { λ _. ⌜ now (out .exit) ≡ splice (now (out .entry)) at (replicate n 0) ⌝ }
+{
+    let mut k = 0;
+    while k < n {
+        out[at + k] = 0;
+        k += 1;
+    }
+}
+
+// Takes 2 * n bytes of the payload to the place `at` of the output, where inserted bytes stand among them: zeros at once, others byte by byte.
+fn take_marked(s: &[u8], p: usize, e: usize, n: usize, out: &mut [u8], at: usize) -> usize
+    requires { ⌜ (2 ≤ p) × (p ≤ e) × (e ≤ length (now s)) ⌝ }
+    requires { ⌜ (1 ≤ n) × (2 * n ≤ length (kept (now s) p e)) ⌝ }
+    requires { ⌜ at + 2 * n ≤ length (now out) ⌝ }
+    ensures { λ r. ⌜ Took (now (s .entry)) p e (2 * n) (now (out .entry)) at (now (out .exit)) r ⌝ }
+{
+    if 3 * n <= e - p {
+        if pairs(s, p, n) {
+            write_zeros(out, at, 2 * n);
+            return p + 3 * n;
+        }
+    }
+    take_slow(s, p, e, 2 * n, out, at)
+}
+
+// Takes a row of 8 bytes of the payload to the place `at` of the output, and answers a place behind them.
+pub fn take8(s: &[u8], p: usize, e: usize, out: &mut [u8], at: usize) -> usize
+    requires { ⌜ (2 ≤ p) × (p ≤ e) × (e ≤ length (now s)) ⌝ }
+    requires { ⌜ 8 ≤ length (kept (now s) p e) ⌝ }
+    requires { ⌜ at + 8 ≤ length (now out) ⌝ }
+    ensures { λ r. ⌜ Took (now (s .entry)) p e 8 (now (out .entry)) at (now (out .exit)) r ⌝ }
+{
+    if calm(s, p, 8) {
+        copy8(s, p, out, at);
+        return p + 8;
+    }
+    take_marked(s, p, e, 4, out, at)
+}
+
+// Takes a row of 12 bytes of the payload to the place `at` of the output, and answers a place behind them.
+pub fn take12(s: &[u8], p: usize, e: usize, out: &mut [u8], at: usize) -> usize
+    requires { ⌜ (2 ≤ p) × (p ≤ e) × (e ≤ length (now s)) ⌝ }
+    requires { ⌜ 12 ≤ length (kept (now s) p e) ⌝ }
+    requires { ⌜ at + 12 ≤ length (now out) ⌝ }
+    ensures { λ r. ⌜ Took (now (s .entry)) p e 12 (now (out .entry)) at (now (out .exit)) r ⌝ }
+{
+    if calm(s, p, 12) {
+        copy12(s, p, out, at);
+        return p + 12;
+    }
+    take_marked(s, p, e, 6, out, at)
+}
+
+// Takes a row of 16 bytes of the payload to the place `at` of the output, and answers a place behind them.
+pub fn take16(s: &[u8], p: usize, e: usize, out: &mut [u8], at: usize) -> usize
+    requires { ⌜ (2 ≤ p) × (p ≤ e) × (e ≤ length (now s)) ⌝ }
+    requires { ⌜ 16 ≤ length (kept (now s) p e) ⌝ }
+    requires { ⌜ at + 16 ≤ length (now out) ⌝ }
+    ensures { λ r. ⌜ Took (now (s .entry)) p e 16 (now (out .entry)) at (now (out .exit)) r ⌝ }
+{
+    if calm(s, p, 16) {
+        copy16(s, p, out, at);
+        return p + 16;
+    }
+    take_marked(s, p, e, 8, out, at)
+}
+
+// Takes a row of 24 bytes of the payload to the place `at` of the output, and answers a place behind them.
+pub fn take24(s: &[u8], p: usize, e: usize, out: &mut [u8], at: usize) -> usize
+    requires { ⌜ (2 ≤ p) × (p ≤ e) × (e ≤ length (now s)) ⌝ }
+    requires { ⌜ 24 ≤ length (kept (now s) p e) ⌝ }
+    requires { ⌜ at + 24 ≤ length (now out) ⌝ }
+    ensures { λ r. ⌜ Took (now (s .entry)) p e 24 (now (out .entry)) at (now (out .exit)) r ⌝ }
+{
+    if calm(s, p, 24) {
+        copy24(s, p, out, at);
+        return p + 24;
+    }
+    take_marked(s, p, e, 12, out, at)
+}
+
+// Takes n bytes of the payload to the place `at` of the output, the widths of a picture's rows by their own functions, and answers a place behind them.
+pub fn take_row(s: &[u8], p: usize, e: usize, n: usize, out: &mut [u8], at: usize) -> usize
+    requires { ⌜ (2 ≤ p) × (p ≤ e) × (e ≤ length (now s)) ⌝ }
+    requires { ⌜ n ≤ length (kept (now s) p e) ⌝ }
+    requires { ⌜ at + n ≤ length (now out) ⌝ }
+    ensures { λ r. ⌜ Took (now (s .entry)) p e n (now (out .entry)) at (now (out .exit)) r ⌝ }
+{
+    if n == 16 {
+        return take16(s, p, e, out, at);
+    }
+    if n == 8 {
+        return take8(s, p, e, out, at);
+    }
+    if n == 24 {
+        return take24(s, p, e, out, at);
+    }
+    if n == 12 {
+        return take12(s, p, e, out, at);
+    }
+    take_slow(s, p, e, n, out, at)
+}
