@@ -1,6 +1,7 @@
 -- What the sizes that 1 to 5 let pass have, so that the code above forms no number that does not fit (01, "Pictures accepted").
---     Fine, fine         of an accepted size: the form, the counts of macroblocks, the crop, the planes
+--     Fine, fine         of an accepted size: the form, the counts of macroblocks, the crop, the planes. `fine` takes a session, which of a picture is `sessionOf`
 --     Known, known       of its form: the chroma format and the depth are known, and a macroblock is its blocks
+--     Units              of its crop
 --     FinePlane          of a plane: its padded size is whole blocks, its rows are whole bytes, what is visible lies in what is padded, bounds
 --     Present            of a plane that the kind has: nothing of it is empty
 --     tight-most ..      bounds of products: a plane stored tight, the macroblocks, a picture's payload
@@ -19,9 +20,10 @@ use Rattle.ycbcr_image.specs.declared.BitDepth.{BitDepth}
 use Rattle.ycbcr_image.specs.declared.BitDepth.the-variants.{Depth8, Depth12}
 use Rattle.ycbcr_image.specs.declared.Kind.{Kind}
 use Rattle.ycbcr_image.specs.declared.Kind.the-variants.{Mono, Colour}
+use Rattle.ycbcr_image.specs.declared.Session.{Session}
 use Rattle.ycbcr_image.specs.Tests.{or-left, or-right, and-left, and-right}
 use Rattle.ycbcr_image.specs.Form.{Form, formOf, mono, planes, inPlane, bytesOf, subWidthC, subHeightC, blockWidth, blockHeight, blockRowBytes, blockBytes, mbBytes, cropUnitX, cropUnitY}
-use Rattle.ycbcr_image.specs.Sizes.{Sequence, divCeil, nextMultiple, picWidthInMbs, frameHeightInMbs, visibleWidth, visibleHeight, paddedWidth, paddedHeight, visibleRowBytes, paddedRowBytes, tightLength}
+use Rattle.ycbcr_image.specs.Sizes.{Sequence, sequenceOf, divCeil, nextMultiple, picWidthInMbs, frameHeightInMbs, visibleWidth, visibleHeight, paddedWidth, paddedHeight, visibleRowBytes, paddedRowBytes, tightLength}
 use Rattle.ycbcr_image.specs.Refusals.{sizeBad, fourBad, oddBad, heightBad, accepted}
 
 -- plane p, be it there or not; in monochrome Cb and Cr are empty
@@ -54,7 +56,14 @@ pub record Known (f : Form) : Type 0 where
   pub mb-most : mbBytes f ≤ 576
   pub mb-blocks : mbBytes f ≡ blockBytes f 0 + (blockBytes f 1 + blockBytes f 2)
 
--- a size that passes; units-x to crop-y: what is visible and what is cropped are whole crop units
+-- what is visible and what is cropped at the right and at the bottom are whole crop units
+pub record Units (q : Sequence) : Type 0 where
+  pub width : q .width % cropUnitX (q .form) ≡ 0
+  pub height : q .height % cropUnitY (q .form) ≡ 0
+  pub right : (paddedWidth q 0 - q .width) % cropUnitX (q .form) ≡ 0
+  pub bottom : (paddedHeight q 0 - q .height) % cropUnitY (q .form) ≡ 0
+
+-- a size that passes
 pub record Fine (q : Sequence) : Type 0 where
   pub known : Known (q .form)
   pub width-low : 1 ≤ q .width
@@ -65,10 +74,7 @@ pub record Fine (q : Sequence) : Type 0 where
   pub across-high : picWidthInMbs q ≤ 1024
   pub down-low : 1 ≤ frameHeightInMbs q
   pub down-high : frameHeightInMbs q ≤ 1024
-  pub units-x : q .width % cropUnitX (q .form) ≡ 0
-  pub units-y : q .height % cropUnitY (q .form) ≡ 0
-  pub crop-x : (paddedWidth q 0 - q .width) % cropUnitX (q .form) ≡ 0
-  pub crop-y : (paddedHeight q 0 - q .height) % cropUnitY (q .form) ≡ 0
+  pub units : Units q
   pub plane : (p : ℕ) → FinePlane q p
   pub present : (p : ℕ) → p < planes (q .form) → Present q p
 
@@ -104,7 +110,10 @@ sound q t =
 packed : (n : ℕ) → n % 2 ≡ 0 → n * 12 / 8 * 8 ≡ n * 12
 packed n e = let k : n ≡ n / 2 * 2 = omega arith in rw k (omega arith)
 
-in-plane : (k : Kind) (d : BitDepth) (w h p : ℕ) → Sound (record { width = w; height = h; form = formOf k d }) → FinePlane (record { width = w; height = h; form = formOf k d }) p
+abbrev of : Kind → BitDepth → ℕ → ℕ → Sequence
+of k d w h = record { width = w; height = h; form = formOf k d }
+
+in-plane : (k : Kind) (d : BitDepth) (w h p : ℕ) → Sound (of k d w h) → FinePlane (of k d w h) p
 unfolding mono inPlane subWidthC subHeightC divCeil nextMultiple picWidthInMbs frameHeightInMbs visibleWidth visibleHeight paddedWidth paddedHeight visibleRowBytes paddedRowBytes blockWidth blockHeight blockRowBytes bytesOf
 in-plane Mono Depth8 w h zero g = omega arith
 in-plane Mono Depth12 w h zero g = omega (arith, packed w (g .odd refl))
@@ -118,7 +127,7 @@ in-plane Colour Depth12 w h (suc p) g =
     let even : w / 2 % 2 ≡ 0 = omega arith in
     omega (arith, g .high refl, packed (w / 2) even)
 
-in-present : (k : Kind) (d : BitDepth) (w h p : ℕ) → Sound (record { width = w; height = h; form = formOf k d }) → p < planes (formOf k d) → Present (record { width = w; height = h; form = formOf k d }) p
+in-present : (k : Kind) (d : BitDepth) (w h p : ℕ) → Sound (of k d w h) → p < planes (formOf k d) → Present (of k d w h) p
 unfolding mono planes inPlane subWidthC subHeightC visibleWidth visibleHeight visibleRowBytes blockWidth blockHeight blockRowBytes bytesOf
 in-present Mono Depth8 w h zero g l = omega arith
 in-present Mono Depth12 w h zero g l = omega arith
@@ -135,13 +144,17 @@ known Mono Depth12 = record { chroma = omega arith; depth = inr refl; mb-most = 
 known Colour Depth8 = record { chroma = omega arith; depth = inl refl; mb-most = omega arith; mb-blocks = omega arith }
 known Colour Depth12 = record { chroma = omega arith; depth = inr refl; mb-most = omega arith; mb-blocks = omega arith }
 
--- every session or picture that passes 1, 3, 4 and 5
-pub fine : (k : Kind) (d : BitDepth) (w h : ℕ) → accepted (record { width = w; height = h; form = formOf k d }) ≡ true → Fine (record { width = w; height = h; form = formOf k d })
-unfolding mono inPlane subWidthC subHeightC divCeil nextMultiple picWidthInMbs frameHeightInMbs visibleWidth visibleHeight paddedWidth paddedHeight cropUnitX cropUnitY blockWidth blockHeight
-fine k d w h t =
+units : (k : Kind) (d : BitDepth) (w h : ℕ) → Sound (of k d w h) → Units (of k d w h)
+unfolding mono inPlane subWidthC subHeightC divCeil nextMultiple visibleWidth visibleHeight paddedWidth paddedHeight cropUnitX cropUnitY blockWidth blockHeight
+units Mono d w h g = omega arith
+units Colour d w h g = omega (arith, g .odd refl, g .high refl)
+
+pub fine : (s : Session) → accepted (sequenceOf s) ≡ true → Fine (sequenceOf s)
+unfolding divCeil nextMultiple picWidthInMbs frameHeightInMbs
+fine s t =
     let g = sound _ t in
     record {
-      known = known k d;
+      known = known (s .kind) (s .depth);
       width-low = g .width-low;
       width-high = g .width-high;
       height-low = g .height-low;
@@ -150,21 +163,10 @@ fine k d w h t =
       across-high = omega arith;
       down-low = omega arith;
       down-high = omega arith;
-      units-x = across k g .0;
-      units-y = down k g .0;
-      crop-x = across k g .1;
-      crop-y = down k g .1;
-      plane = λ p. in-plane k d w h p g;
-      present = λ p. in-present k d w h p g;
+      units = units (s .kind) (s .depth) (s .width) (s .height) g;
+      plane = λ p. in-plane (s .kind) (s .depth) (s .width) (s .height) p g;
+      present = λ p. in-present (s .kind) (s .depth) (s .width) (s .height) p g;
     }
-  where
-    across : (k : Kind) → Sound (record { width = w; height = h; form = formOf k d }) → (w % cropUnitX (formOf k d) ≡ 0) × ((nextMultiple w 16 - w) % cropUnitX (formOf k d) ≡ 0)
-    across Mono g = omega arith
-    across Colour g = omega (arith, g .odd refl)
-
-    down : (k : Kind) → Sound (record { width = w; height = h; form = formOf k d }) → (h % cropUnitY (formOf k d) ≡ 0) × ((nextMultiple h 16 - h) % cropUnitY (formOf k d) ≡ 0)
-    down Mono g = omega arith
-    down Colour g = omega (arith, g .high refl)
 
 -- a plane's visible rows, stored tight
 pub tight-most : {q : Sequence} → Fine q → (p : ℕ) → tightLength q p ≤ 402653184

@@ -19,7 +19,7 @@ plane l s d = record { len = l; stride = s; depth = d }
 abbrev image : Kind → BitDepth → ℕ → ℕ → ℕ → ℕ → ℕ → YCbCrImage
 image k d w h s l m = record { width = w; height = h; kind = k; y = plane l s d; cb = plane m s d; cr = plane m s d }
 
-pub record Refusals : Type 0 where
+pub record Worked : Type 0 where
   pub largest : refusalOf (image Mono Depth8 16384 16384 16384 268435456 0) ≡ 0
   pub too-wide : refusalOf (image Mono Depth8 16385 16384 16400 268697600 0) ≡ 1
   pub no-height : refusalOf (image Mono Depth8 16 0 16 256 0) ≡ 1
@@ -39,9 +39,9 @@ pub record Refusals : Type 0 where
   pub row-short : refusalOf (image Mono Depth8 16 15 16 240 0) ≡ 8
   pub cb-first : refusalOf (record { width = 16; height = 16; kind = Colour; y = plane 256 16 Depth8; cb = plane 63 8 Depth8; cr = plane 64 7 Depth8 }) ≡ 8
 
-pub refusals : Refusals
+pub worked : Worked
 unfolding refusalOf refusalNext planesRefusal chromaRefusal first planeRefusal shapeRefusal sizeBad depthsBad fourBad oddBad heightBad sessionBad strideBad rowsBad paddedWidth paddedHeight paddedRowBytes visibleWidth visibleHeight nextMultiple divCeil blockWidth blockHeight subWidthC subHeightC bytesOf inPlane mono
-refusals = record {
+worked = record {
   largest = refl;
   too-wide = refl;
   no-height = refl;

@@ -19,7 +19,7 @@ use Rattle.ycbcr_image.specs.declared.Kind.the-variants.{Mono}
 use Rattle.ycbcr_image.specs.Tests.{or-left, or-right}
 use Rattle.ycbcr_image.specs.Form.{mono, planes, blockHeight, blockRowBytes}
 use Rattle.ycbcr_image.specs.Sizes.{Sequence, picWidthInMbs, frameHeightInMbs, paddedRowBytes, paddedHeight}
-use Rattle.ycbcr_image.specs.Refusals.{planeOf, ofPicture, sizeBad, depthsBad, fourBad, oddBad, heightBad, sessionBad, accepted, strideBad, rowsBad, shapeRefusal, planeRefusal, first, chromaRefusal, planesRefusal, differ, refusalOf, refusalNext}
+use Rattle.ycbcr_image.specs.Refusals.{planeOf, sessionOf, ofPicture, sizeBad, depthsBad, fourBad, oddBad, heightBad, sessionBad, accepted, strideBad, rowsBad, shapeRefusal, planeRefusal, first, chromaRefusal, planesRefusal, differ, refusalOf, refusalNext}
 use Rattle.ycbcr_image.specs.Accepted.{Fine, fine, row-some}
 
 pub first-none : (n later : ℕ) → n ≡ 0 → first n later ≡ later
@@ -94,7 +94,7 @@ pass : (i : YCbCrImage) → shapeRefusal i ≡ 0 → planesRefusal i ≡ 0 → P
 unfolding planesRefusal chromaRefusal planes
 pass i s l =
     let t : accepted (ofPicture i) ≡ true = shape-accepted i s in
-    record { sizes = t; fine = fine (i .kind) (i .y .depth) (i .width) (i .height) t; lent = each }
+    record { sizes = t; fine = fine (sessionOf i) t; lent = each }
   where
     chroma : (p : ℕ) → suc p < planes (ofPicture i .form) → chromaRefusal i ≡ 0
     chroma p h = rw (in-colour (mono (ofPicture i .form)) p h .0) at (neither _ _ l .1)

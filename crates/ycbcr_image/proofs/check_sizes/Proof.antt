@@ -26,7 +26,7 @@ returns c =
 div-if2 : tie.Need-div-if2
 div-if2 c =
     let a = c .before .before .before .before .args in
-    let g = fine (a .s .kind) (a .s .depth) (a .s .width) (a .s .height) (c .before .before .before .before .pre .0) in
+    let g = fine (a .s) (c .before .before .before .before .pre .0) in
     omega (arith, c .before .if1 .left, c .before .before .before .padded-row-bytes .ensures, row-some g (a .p) (c .before .before .before .before .pre .1))
 
 returns-2 : tie.Need-returns-2

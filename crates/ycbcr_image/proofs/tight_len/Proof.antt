@@ -20,7 +20,7 @@ returns c = rw (sym (c .before .visible-rows .ensures), sym (c .visible-row-byte
 mul-result : tie.Need-mul-result
 mul-result c =
     let a = c .before .before .args in
-    let g = fine (a .s .kind) (a .s .depth) (a .s .width) (a .s .height) (c .before .before .pre) in
+    let g = fine (a .s) (c .before .before .pre) in
     omega (arith, returns c, tight-most g (a .p))
 
 pub tight-len-spec : {M : Type 1} → statement M
