@@ -10,3 +10,4 @@ pub mod Cut
 pub mod Damage
 pub mod Units
 pub mod Plain
+pub mod ScanCode
