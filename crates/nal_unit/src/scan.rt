@@ -1,9 +1,14 @@
 // Looking through lent bytes for start codes, faults and the bounds of units (ITU-T H.264 B.1.1, 7.4.1).
 // Each search goes 64 places at a time, and byte by byte only where one of them has what is sought.
 ghost use mathlib.Core.Path.{_≡_};
+ghost use mathlib.Core.List.{[], _∷_};
+ghost use mathlib.Core.Bool.{false, cond, _&&_};
 ghost use Prim.Native.Nat.{_+_, _≤_};
+ghost use lib.Dec.{leb, eqb};
 ghost use lib.ListN.{length, drop};
 ghost use Rattle.nal_unit.specs.StartCode.{code, next};
+ghost use Rattle.nal_unit.specs.Unescape.{faultHere};
+ghost use Rattle.nal_unit.specs.ScanCode.{firstFault};
 
 // Whether a start code stands at `i`.
 fn code_at(s: &[u8], i: usize) -> bool
@@ -59,4 +64,121 @@ pub fn next_code(s: &[u8], from: usize) -> usize
         i += 64;
     }
     next_plain(s, i)
+}
+
+// 1 where `c` is a 03 that the byte `d` behind it lets stand behind two zeros, else 0.
+fn inserted_if(c: u8, d: u8) -> u8
+    ensures { λ r. ⌜ r ≡ cond (eqb c 3 && leb d 3) 1 0 ⌝ }
+{
+    if (c ^ 3) | (d & 252) == 0 { 1 } else { 0 }
+}
+
+// Whether the four bytes begin with a fault: 00 00 00, 00 00 01, 00 00 02, or 00 00 03 with a byte over 03 behind.
+fn fault_bytes(a: u8, b: u8, c: u8, d: u8) -> bool
+    ensures { λ r. ⌜ r ≡ faultHere (a ∷ b ∷ c ∷ d ∷ []) ⌝ }
+{
+    a | b | (c & 252) | inserted_if(c, d) == 0
+}
+
+// Whether a fault begins at `i`, with three bytes or more behind it.
+fn fault_in(s: &[u8], i: usize) -> bool
+    requires { ⌜ i + 4 ≤ length (now s) ⌝ }
+    ensures { λ r. ⌜ r ≡ faultHere (drop i (now (s .entry))) ⌝ }
+{
+    fault_bytes(s[i], s[i + 1], s[i + 2], s[i + 3])
+}
+
+// Whether a fault begins at `i`.
+fn fault_at(s: &[u8], i: usize) -> bool
+    requires { ⌜ i + 3 ≤ length (now s) ⌝ }
+    ensures { λ r. ⌜ r ≡ faultHere (drop i (now (s .entry))) ⌝ }
+{
+    if 4 <= s.len() - i {
+        return fault_in(s, i);
+    }
+    fault_bytes(s[i], s[i + 1], s[i + 2], 0)
+}
+
+// Whether two zeros and a byte of 03 or less stand at `i`, as in every fault and around every inserted byte.
+fn low_at(s: &[u8], i: usize) -> bool
+    requires { ⌜ i + 3 ≤ length (now s) ⌝ }
+    ensures { λ r. ⌜ (r ≡ false → faultHere (drop i (now (s .entry))) ≡ false) ⌝ }
+{
+    s[i] | s[i + 1] | (s[i + 2] & 252) == 0
+}
+
+// Where it answers 0, no fault begins at one of the 64 places from `i` on. A quick test, which inserted bytes do not pass.
+fn low64(s: &[u8], i: usize) -> u8
+    requires { ⌜ i + 66 ≤ length (now s) ⌝ }
+    ensures { λ r. ⌜ (r ≡ 0 → i + firstFault (drop i (now (s .entry))) ≡ i + 64 + firstFault (drop (i + 64) (now (s .entry)))) ⌝ }
+{
+    let mut found: u8 = 0;
+    let mut k: usize = 0;
+    while k < 64 {
+        if low_at(s, i + k) {
+            found = 1;
+        }
+        k += 1;
+    }
+    found
+}
+
+// The same by the exact test.
+fn fault64(s: &[u8], i: usize) -> u8
+    requires { ⌜ i + 67 ≤ length (now s) ⌝ }
+    ensures { λ r. ⌜ (r ≡ 0 → i + firstFault (drop i (now (s .entry))) ≡ i + 64 + firstFault (drop (i + 64) (now (s .entry)))) ⌝ }
+{
+    let mut found: u8 = 0;
+    let mut k: usize = 0;
+    while k < 64 {
+        if fault_in(s, i + k) {
+            found = 1;
+        }
+        k += 1;
+    }
+    found
+}
+
+// The same by the quick test, and by the exact one where that finds something.
+fn faults64(s: &[u8], i: usize) -> u8
+    requires { ⌜ i + 67 ≤ length (now s) ⌝ }
+    ensures { λ r. ⌜ (r ≡ 0 → i + firstFault (drop i (now (s .entry))) ≡ i + 64 + firstFault (drop (i + 64) (now (s .entry)))) ⌝ }
+{
+    let low = low64(s, i);
+    if low == 0 {
+        return low;
+    }
+    fault64(s, i)
+}
+
+// The first fault at or behind `from`, byte by byte.
+fn fault_plain(s: &[u8], from: usize) -> usize
+    requires { ⌜ from ≤ length (now s) ⌝ }
+    ensures { λ r. ⌜ r ≡ from + firstFault (drop from (now (s .entry))) ⌝ }
+{
+    let mut i = from;
+    while 3 <= s.len() - i {
+        if fault_at(s, i) {
+            return i;
+        }
+        i += 1;
+    }
+    s.len()
+}
+
+// The place of the first fault at or behind `from`, or the end; a place beyond the end is answered as it is.
+pub fn first_fault(s: &[u8], from: usize) -> usize
+    ensures { λ r. ⌜ r ≡ from + firstFault (drop from (now (s .entry))) ⌝ }
+{
+    if s.len() < from {
+        return from;
+    }
+    let mut i = from;
+    while 67 <= s.len() - i {
+        if faults64(s, i) != 0 {
+            return fault_plain(s, i);
+        }
+        i += 64;
+    }
+    fault_plain(s, i)
 }
