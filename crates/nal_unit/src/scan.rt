@@ -3,12 +3,13 @@
 ghost use mathlib.Core.Path.{_≡_};
 ghost use mathlib.Core.List.{[], _∷_};
 ghost use mathlib.Core.Bool.{false, cond, _&&_};
-ghost use Prim.Native.Nat.{_+_, _≤_};
+ghost use Prim.Native.Nat.{_+_, _-_, _≤_};
 ghost use lib.Dec.{leb, eqb};
-ghost use lib.ListN.{length, drop};
+ghost use lib.ListN.{length, take, drop};
 ghost use Rattle.nal_unit.specs.StartCode.{code, next};
 ghost use Rattle.nal_unit.specs.Unescape.{faultHere};
-ghost use Rattle.nal_unit.specs.ScanCode.{firstFault};
+ghost use Rattle.nal_unit.specs.ScanCode.{firstFault, unitScan};
+ghost use Rattle.nal_unit.specs.Walk.{blank, trim};
 
 // Whether a start code stands at `i`.
 fn code_at(s: &[u8], i: usize) -> bool
@@ -181,4 +182,63 @@ pub fn first_fault(s: &[u8], from: usize) -> usize
         i += 64;
     }
     fault_plain(s, i)
+}
+
+// Where a unit ends: the next start code or the end, the place behind the unit's last byte, and whether the unit has a fault.
+pub struct UnitScan {
+    pub end: usize,
+    pub stop: usize,
+    pub bad: bool,
+}
+
+// The place behind the last byte that is not zero of those from `from` to `end`, or `from` where all are.
+fn trim_end(s: &[u8], from: usize, end: usize) -> usize
+    requires { ⌜ from ≤ end ⌝ }
+    requires { ⌜ end ≤ length (now s) ⌝ }
+    ensures { λ r. ⌜ r ≡ from + length (trim (take (end - from) (drop from (now (s .entry))))) ⌝ }
+{
+    let mut stop = end;
+    while from < stop {
+        if s[stop - 1] != 0 {
+            return stop;
+        }
+        stop -= 1;
+    }
+    stop
+}
+
+// The unit whose bytes begin at `from`, behind its start code. Trailing zeros are no part of it, also for the fault.
+pub fn unit_scan(s: &[u8], from: usize) -> UnitScan
+    ensures { λ r. ⌜ r ≡ unitScan (now (s .entry)) from ⌝ }
+{
+    if s.len() < from {
+        return UnitScan {
+            end: from,
+            stop: from,
+            bad: false,
+        };
+    }
+    let fault = first_fault(s, from);
+    let end = next_code(s, fault);
+    let stop = trim_end(s, from, end);
+    UnitScan {
+        end: end,
+        stop: stop,
+        bad: fault + 3 <= stop,
+    }
+}
+
+// Whether the bytes from `from` to `to` are all zero.
+pub fn all_zero(s: &[u8], from: usize, to: usize) -> bool
+    requires { ⌜ to ≤ length (now s) ⌝ }
+    ensures { λ r. ⌜ r ≡ blank (take (to - from) (drop from (now (s .entry)))) ⌝ }
+{
+    let mut i = from;
+    while i < to {
+        if s[i] != 0 {
+            return false;
+        }
+        i += 1;
+    }
+    true
 }
