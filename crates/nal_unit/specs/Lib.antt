@@ -11,3 +11,4 @@ pub mod Damage
 pub mod Units
 pub mod Plain
 pub mod ScanCode
+pub mod UnescapeCode
