@@ -229,6 +229,7 @@ data Fault : List ℕ → Type 0 where
   low : {c : ℕ} {t : List ℕ} → c ≤ 2 → Fault (0 ∷ 0 ∷ c ∷ t)
   high : {d : ℕ} {t : List ℕ} → 4 ≤ d → Fault (0 ∷ 0 ∷ 3 ∷ d ∷ t)
 
+-- such bytes, where one stands
 fault-is : (s : List ℕ) → faultHere s ≡ true → Fault s
 unfolding faultHere over3
 fault-is [] e = absurd (true≢false (sym e))
@@ -246,6 +247,7 @@ fault-is (a ∷ b ∷ c ∷ t) e = by t (both (eqb a 0) (eqb b 0 && (leb c 2 || 
         let q = both (eqb b 0) (leb c 2 || (eqb c 3 && over3 t)) (p .1) in
         rw (eqb-true a 0 (p .0), eqb-true b 0 (q .0)) (third t (leb c 2) refl (q .1))
 
+-- and the other way round
 is-fault : {s : List ℕ} → Fault s → faultHere s ≡ true
 unfolding faultHere over3
 is-fault (low {c} h) = rw (le-leb c 2 h) refl
@@ -256,6 +258,7 @@ fault-before : {s : List ℕ} (t : List ℕ) → Fault s → Fault (s ++ t)
 fault-before t (low h) = low h
 fault-before t (high h) = high h
 
+-- it is three bytes or more
 fault-long : {s : List ℕ} → Fault s → 3 ≤ length s
 fault-long (low h) = omega arith
 fault-long (high h) = omega arith
@@ -298,6 +301,7 @@ fault-behind [] [] e = absurd (true≢false (sym e))
 fault-behind [] (x ∷ t) e = rw e refl
 fault-behind (x ∷ s) t e = rw (fault-behind s t e) (or-true (faultHere (x ∷ (s ++ t))))
 
+-- each byte of zeros is zero
 blank-at : (l : List ℕ) (i : ℕ) → blank l ≡ true → getD l i 0 ≡ 0
 unfolding blank
 blank-at [] i e = refl
@@ -327,13 +331,14 @@ pub unit-is : (s : List ℕ) → unitOf s ≡ trim (take (next s) s)
 unfolding unitOf
 unit-is s = refl
 
--- it is the first bytes of s, none of them at the next start code or behind
+-- it ends at the next start code or before
 pub unit-le : (s : List ℕ) → length (unitOf s) ≤ next s
 unfolding unitOf
 unit-le s =
     let r = trimmed (take (next s) s) in
     omega (arith, ap length (r .left) ∙ length-take-le (r .count) (take (next s) s) (r .most), length-take-le (next s) s (next-le s), r .most)
 
+-- it is the first bytes of s
 pub unit-take : (s : List ℕ) → unitOf s ≡ take (length (unitOf s)) s
 unfolding unitOf
 unit-take s =
@@ -404,7 +409,7 @@ module _ (s : List ℕ) (from f e t : ℕ) (ef : f ≡ from + firstFault (drop f
       let b : fault (unitOf (drop from s)) ≡ leb (f + 3) t = unit-bad (drop from s) ∙ shift (firstFault (drop from s)) (length (unitOf (drop from s))) ef k in
       cc unit-end
 
--- what a caller learns: the unit is the bytes from `from` to `stop`
+-- what a caller learns of the scan's answer: its three values, and that the unit is the bytes from `from` to `stop`
 pub record Scanned (s : List ℕ) (from : ℕ) (r : UnitScan) : Type 0 where
   pub end : r .end ≡ from + next (drop from s)
   pub stop : r .stop ≡ from + length (unitOf (drop from s))
@@ -413,6 +418,7 @@ pub record Scanned (s : List ℕ) (from : ℕ) (r : UnitScan) : Type 0 where
   pub most : r .stop ≤ r .end
   pub inside : from ≤ length s → r .end ≤ length s
 
+-- so it is of the answer
 pub unit-scanned : (s : List ℕ) (from : ℕ) (r : UnitScan) → r ≡ unitScan s from → Scanned s from r
 unfolding unitScan part
 unit-scanned s from r e =

@@ -46,7 +46,7 @@ unfoldable pub unPart : List ℕ → ℕ → ℕ → List ℕ
 unPart s p zero = []
 unPart s p (suc n) = cond (markAt s p) (unPart s (p + 1) n) (getD s p 0 ∷ unPart s (p + 1) n)
 
--- the definition, as laws
+-- the definition, as laws: no byte, an inserted byte, another byte
 pub part-un-none : (s : List ℕ) (p : ℕ) → unPart s p 0 ≡ []
 unfolding unPart
 part-un-none s p = refl
@@ -132,6 +132,7 @@ count-keep s p e = ap length (part-un-keep s p 0 e ∙ ap (λ (l : List ℕ). ge
 pub count-append : (m : ℕ) (s : List ℕ) (p n : ℕ) → length (unPart s p (m + n)) ≡ length (unPart s p m) + length (unPart s (p + m) n)
 count-append m s p n = ap length (part-un-append m s p n) ∙ length-append (unPart s p m) (unPart s (p + m) n)
 
+-- the same from the first byte on
 pub count-on : (s : List ℕ) (p n : ℕ) → length (unPart s 0 (p + n)) ≡ length (unPart s 0 p) + length (unPart s p n)
 count-on s p n = rw (zero-add p) at (count-append p s 0 n)
 
@@ -169,6 +170,7 @@ counted-mark s p e =
     let f : eqb (getD s p 0) 0 ≡ false = rw e refl in
     record { one = sym f; two = sym (ap (λ (b : Bool). zeroBefore s p && b) f ∙ and-false (zeroBefore s p)) }
 
+-- from a place on, with the zero bytes counted before it, the definition and the places give the same payload
 un-from : (n : ℕ) (s : List ℕ) (p z : ℕ) → p + n ≡ length s → Counted s p z → unFrom z (drop p s) ≡ unPart s p n
 unfolding unPart markAt inserted
 un-from zero s p z h c = let l : length s ≤ p = omega arith in rw (drop-of-length-le s l) (un-nil z)
@@ -191,7 +193,7 @@ pub record Took (s : List ℕ) (p n : ℕ) (d : List ℕ) (a : ℕ) (d′ : List
   pub bytes : d′ ≡ splice d a (unPart s p n)
   pub place : a′ ≡ a + length (unPart s p n)
 
--- of one byte
+-- of one byte: an inserted one, or another
 pub took-mark : (s : List ℕ) (p : ℕ) (d : List ℕ) (a : ℕ) → markAt s p ≡ true → Took s p 1 d a d a
 took-mark s p d a e =
     let n : unPart s p 1 ≡ [] = part-un-mark s p 0 e ∙ part-un-none s (p + 1) in
@@ -219,6 +221,7 @@ took-room m n s p g = puts-room (unPart s p m) (unPart s (p + m) n) (rw (part-un
 pub took-done : {d out : List ℕ} {b : ℕ} (s : List ℕ) (p n a : ℕ) → Writing d (take a d ++ unPart s p n) out b [] → a ≤ length d → Took s p n d a out b
 took-done s p n a g h = let f = done-at a (unPart s p n) g h in record { bytes = f .0; place = f .1 }
 
+-- or is with the last part
 pub took-last : {d out out′ : List ℕ} {b b′ : ℕ} (s : List ℕ) (p n a i m : ℕ) → Writing d (take a d ++ unPart s p n) out b (unPart s i m) → a ≤ length d
     → Took s i m out b out′ b′ → Took s p n d a out′ b′
 took-last s p n a i m g h t = took-done s p n a (rw (part-un-none s (i + m)) at (took-on m 0 s i (rw (← add-zero m) at g) t)) h
@@ -258,7 +261,7 @@ unescapedOut (Written n) s d = un s ++ drop n d
 unescapedOut Fault s d = d
 unescapedOut NoRoom s d = d
 
--- the three cases
+-- the answer in each of its three cases: a fault, no room, room
 pub unescape-fault : (s d : List ℕ) → fault s ≡ true → unescapeOf s d ≡ Fault
 unfolding unescapeOf
 unescape-fault s d e = rw e refl
