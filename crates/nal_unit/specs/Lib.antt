@@ -17,3 +17,5 @@ pub mod Kept
 pub mod Taking
 pub mod Copying
 pub mod TakingCode
+pub mod ScanCode
+pub mod UnescapeCode

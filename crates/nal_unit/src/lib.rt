@@ -4,7 +4,9 @@ pub mod count;
 pub mod fast;
 pub mod put;
 pub mod rows;
+pub mod scan;
 pub mod taking;
+pub mod unescape;
 pub mod unit;
 
 ghost use mathlib.Core.Path.{_≡_};
@@ -52,3 +54,4 @@ pub fn rbsp_to_ebsp(rbsp: &[u8], nal: &mut [u8]) -> Escaped
     let at = fast::put_slice(rbsp, 0, rbsp.len(), nal, 0);
     Escaped::Written(at)
 }
+
