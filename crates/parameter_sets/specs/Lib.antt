@@ -1,0 +1,3 @@
+pub mod Sps
+pub mod Pps
+pub mod Cases
