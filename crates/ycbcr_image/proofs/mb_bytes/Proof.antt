@@ -1,39 +1,41 @@
+-- `ycbcr_image::mb_bytes` meets its contract: a chroma block has at most 256 samples. Assumes nothing.
+use Prim.Native.Nat.{_*_, _≤_}
+use native.Mathlib.Nat.{mul-le-mul}
+use native.Mathlib.Omega.{arith}
+use Rattle.ycbcr_image.specs.Form.{mbBytes, block-wide-most, block-high-most}
+use Rattle.ycbcr_image.specs.Sizes.{sequenceOf}
 use borrow.Author.Needs.{needs}
 use Rattle.ycbcr_image.proofs.mb_bytes.Statement.{statement}
 use Rattle.ycbcr_image.proofs.mb_bytes.Tie as tie
-use Rattle.ycbcr_image.proofs.mb_bytes.Reads as reads
-use Rattle.ycbcr_image.proofs.mb_bytes.Lts as lts
-use Rattle.ycbcr_image.proofs.mb_height.Reads as mb-height-reads
-use Rattle.ycbcr_image.proofs.mb_width.Reads as mb-width-reads
-use Rattle.ycbcr_image.proofs.row_bytes.Reads as row-bytes-reads
 
--- src/lib.rt:165:29
+small : (c : tie.After-mb-height) → c .before .mb-width .result * c .mb-height .result ≤ 256
+small c =
+    let f = sequenceOf (c .before .before .args .s) .form in
+    let w : c .before .mb-width .result ≤ 16 = omega (arith, c .before .mb-width .ensures, block-wide-most f 1) in
+    let h : c .mb-height .result ≤ 16 = omega (arith, c .mb-height .ensures, block-high-most f 1) in
+    mul-le-mul w h
+
 mb-width-requires : tie.Need-mb-width-requires
 mb-width-requires c κs = search needs
 
--- src/lib.rt:165:46
 mb-height-requires : tie.Need-mb-height-requires
 mb-height-requires c κs = search needs
 
--- src/lib.rt:165:29
 mul-row-bytes : tie.Need-mul-row-bytes
-mul-row-bytes c = ?
+mul-row-bytes c = let h = small c in omega arith
 
--- src/lib.rt:165:24
 mul-row-bytes-2 : tie.Need-mul-row-bytes-2
-mul-row-bytes-2 c = ?
+mul-row-bytes-2 c = let h = small c in omega arith
 
--- src/lib.rt:165:18
 add-row-bytes : tie.Need-add-row-bytes
-add-row-bytes c = ?
+add-row-bytes c = let h = small c in omega arith
 
--- src/lib.rt:165:5
 row-bytes-requires : tie.Need-row-bytes-requires
-row-bytes-requires c κs = ?
+row-bytes-requires c κs = let h = small c in omega arith
 
--- src/lib.rt:162:1
 returns : tie.Need-returns
-returns c = ?
+unfolding mbBytes
+returns c = cc
 
 pub mb-bytes-spec : {M : Type 1} → statement M
 mb-bytes-spec =

@@ -1,0 +1,7 @@
+pub mod Tests
+pub mod Form
+pub mod Sizes
+pub mod Refusals
+pub mod Accepted
+pub mod Passed
+pub mod Cases
