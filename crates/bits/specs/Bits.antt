@@ -14,7 +14,7 @@ use native.Mathlib.Omega.{arith}
 use lib.Dec.{leb}
 use borrow.Author.Tests.{le-leb, lt-leb, leb-true, leb-false}
 use lib.ListN.{length, take, drop, getD, set, replicate, length-append, length-take, length-drop, drop-of-length-le, List·getD-append}
-use lib.Seq.{getD-append-add, getD-take, getD-drop, set-append-left, drop-drop}
+use lib.Seq.{getD-append-add, getD-take, getD-drop, set-append-left, drop-drop, take-all}
 use lib.Pow.{pow-mono, mod-pow-add, mod-mod-pow, field, high, low}
 use Rattle.lists.specs.Every.{Below, below-nil, below-cons, below-head, below-tail, below-append, below-take, below-drop}
 use Rattle.lists.specs.Fill.{splice, splice-length, splice-none, splice-splice}
@@ -276,6 +276,11 @@ from-end s place h = drop-of-length-le (take (bitCount s) (bitsOf s)) {i = place
 pub from-split : (s : List ℕ) (place n : ℕ) → place + n ≤ bitCount s → bitsFrom s place ≡ part (bitsOf s) place n ++ bitsFrom s (place + n)
 unfolding bitsFrom
 from-split s place n h = rw (← part-take (bitsOf s) (bitCount s) place n h) (part-rest (take (bitCount s) (bitsOf s)) place n)
+
+-- in a buffer whose bits all have a place
+pub from-small : (s : List ℕ) (place : ℕ) → 8 * length s < 2 ^ 64 → bitsFrom s place ≡ drop place (bitsOf s)
+unfolding bitsFrom bitCount
+from-small s place h = ap (λ (l : List ℕ). drop place l) (take-all (min (8 * length s) (2 ^ 64 - 1)) (bitsOf s) (omega (arith, bits-length s)))
 
 -- buffers of one length have as many bits
 pub count-same : (s t : List ℕ) → length s ≡ length t → bitCount s ≡ bitCount t

@@ -1,3 +1,5 @@
 pub mod Sps
 pub mod Pps
+pub mod Split
+pub mod Read
 pub mod Cases
