@@ -14,7 +14,7 @@ use native.Mathlib.Omega.{arith}
 use lib.Dec.{leb}
 use borrow.Author.Tests.{le-leb, lt-leb, leb-true, leb-false}
 use lib.ListN.{length, take, drop, getD, set, replicate, length-append, length-take, length-drop, drop-of-length-le, List·getD-append}
-use lib.Seq.{getD-append-add, getD-take, getD-drop, set-append-left, drop-drop, take-all}
+use lib.Seq.{getD-append-add, getD-take, getD-drop, set-append-left, drop-drop, take-all, take-nil, take-append-add}
 use lib.Pow.{pow-mono, mod-pow-add, mod-mod-pow, field, high, low}
 use Rattle.lists.specs.Every.{Below, below-nil, below-cons, below-head, below-tail, below-append, below-take, below-drop}
 use Rattle.lists.specs.Fill.{splice, splice-length, splice-none, splice-splice}
@@ -198,6 +198,15 @@ pub bits-append : (s t : List ℕ) → bitsOf (s ++ t) ≡ bitsOf s ++ bitsOf t
 unfolding bitsOf
 bits-append [] t = refl
 bits-append (b ∷ s) t = rw (bits-append s t) (sym (append-assoc (lowBits 8 b) (bitsOf s) (bitsOf t)))
+
+-- the bits of the first bytes are the first bits
+pub bits-take : (j : ℕ) (s : List ℕ) → bitsOf (take j s) ≡ take (8 * j) (bitsOf s)
+unfolding bitsOf
+bits-take zero s = refl
+bits-take (suc j) [] = sym (take-nil {A = ℕ} (8 * suc j))
+bits-take (suc j) (b ∷ s) =
+    let e : 8 * suc j ≡ length (lowBits 8 b) + 8 * j = omega (arith, low-length 8 b) in
+    rw (e, take-append-add (lowBits 8 b) (bitsOf s) (8 * j), bits-take j s) refl
 
 -- the bit at a place, by the code's arithmetic
 pub bit-is : (s : List ℕ) (p : ℕ) → p < 8 * length s → getD (bitsOf s) p 0 ≡ getD s (p / 8) 0 / 2 ^ (7 - p % 8) % 2

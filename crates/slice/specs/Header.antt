@@ -20,16 +20,16 @@ iPcm = 25
 
 unfoldable pub headerBits : ℕ → ℕ → List ℕ
 headerBits first id =
-    ue first                     -- first_mb_in_slice
-    ++ (ue 7                     -- slice_type: I, as all slices of the picture
-    ++ (ue 0                     -- pic_parameter_set_id
-    ++ (lowBits 4 0              -- frame_num, of log2_max_frame_num_minus4 + 4 bits
-    ++ (ue id                    -- idr_pic_id
-    ++ (lowBits 4 0              -- pic_order_cnt_lsb, of log2_max_pic_order_cnt_lsb_minus4 + 4 bits
-    ++ (lowBits 1 1              -- no_output_of_prior_pics_flag
-    ++ (lowBits 1 0              -- long_term_reference_flag
-    ++ (se (pos 0)               -- slice_qp_delta
-    ++ ue iPcm))))))))           -- mb_type of the first macroblock
+    ue first  -- first_mb_in_slice
+    ++ (ue 7  -- slice_type: I, as all slices of the picture
+    ++ (ue 0  -- pic_parameter_set_id
+    ++ (lowBits 4 0  -- frame_num, of log2_max_frame_num_minus4 + 4 bits
+    ++ (ue id  -- idr_pic_id
+    ++ (lowBits 4 0  -- pic_order_cnt_lsb, of log2_max_pic_order_cnt_lsb_minus4 + 4 bits
+    ++ (lowBits 1 1  -- no_output_of_prior_pics_flag
+    ++ (lowBits 1 0  -- long_term_reference_flag
+    ++ (se (pos 0)  -- slice_qp_delta
+    ++ ue iPcm))))))))  -- mb_type of the first macroblock
 
 unfoldable pub headerOf : ℕ → ℕ → List ℕ
 headerOf first id = packed (headerBits first id)
