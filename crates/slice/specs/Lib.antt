@@ -6,3 +6,4 @@ pub mod Filling
 pub mod Blocks
 pub mod Formed
 pub mod Header
+pub mod Picture
