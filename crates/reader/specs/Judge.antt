@@ -59,8 +59,8 @@ unfoldable pub spsVerdict : Held → Held → Option Sequence → Verdict Held W
 spsVerdict h c none = keep h (refused 14)
 spsVerdict h c (some q) =
     elim (c .sps) [
-      none ↦ record { word = sps q; held = record { sps = some q; pps = c .pps }; stay = false }
-    | some held ↦ cond (sessionBad held q) (keep h (refused 15)) (keep h (sps q))
+      | none ↦ record { word = sps q; held = record { sps = some q; pps = c .pps }; stay = false }
+      | some held ↦ cond (sessionBad held q) (keep h (refused 15)) (keep h (sps q))
     ]
 
 -- 14, of a picture parameter set with the payload X

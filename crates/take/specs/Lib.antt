@@ -1,1 +1,2 @@
-pub mod Take
+pub mod Last
+pub mod Judged
