@@ -49,6 +49,10 @@ pub counted-is : (q : Sequence) (b : Bool) → possible q ≡ true → counted (
 unfolding counted
 counted-is q b e = rw e refl
 
+-- the visible samples of the lent planes
+abbrev pub visibleOf : Sequence → P.Lends → Samples
+visibleOf q L = record { y = P.visibleIn q 0 (L .y); cb = P.visibleIn q 1 (L .cb); cr = P.visibleIn q 2 (L .cr) }
+
 module _ (room : ℕ → ℕ) where
   -- a unit of a nonzero header and an escape goes to the verdict by its header
   judge-unit : (h : Held) (x : ℕ) (p : List ℕ) → 0 < x → judge room h (x ∷ esc p) ≡ unitVerdict room h x p
@@ -89,10 +93,6 @@ module _ (room : ℕ → ℕ) where
   pub not-short : (q : Sequence) → Enough q → short room q ≡ false
   unfolding short
   not-short q n = rw (le-ltb (room 0) (tightLength q 0) (n .y), le-ltb (room 1) (tightLength q 1) (n .cb), le-ltb (room 2) (tightLength q 2) (n .cr)) refl
-
-  -- the visible samples of the lent planes
-  abbrev pub visibleOf : Sequence → P.Lends → Samples
-  visibleOf q L = record { y = P.visibleIn q 0 (L .y); cb = P.visibleIn q 1 (L .cb); cr = P.visibleIn q 2 (L .cr) }
 
   accepted-picture : (q : Sequence) (L : P.Lends) → Fine q → P.Whole q L → Enough q → pictureVerdict room (having q true) q (P.pictureOf q L) ≡ keep (having q true) (picture (visibleOf q L))
   unfolding pictureVerdict

@@ -1,2 +1,5 @@
 pub mod Last
 pub mod Judged
+pub mod Take
+pub mod Reading
+pub mod Promises
