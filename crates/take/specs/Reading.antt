@@ -112,7 +112,7 @@ module _ (room : ℕ → ℕ) (T : Take) (n : Enough room (sizeOf T)) where
   abbrev z : Session
   z = sessionOf (imageOf (T .first))
 
-  sizes : accepted q ≡ true
+  pub sizes : accepted q ≡ true
   sizes = first-framed T .pass .sizes
 
   pub fits : possible q ≡ true
