@@ -14,7 +14,7 @@ use native.Mathlib.Omega.{arith}
 use lib.Dec.{leb}
 use borrow.Author.Tests.{le-leb, lt-leb, leb-true, leb-false}
 use lib.ListN.{length, take, drop, getD, set, replicate, length-append, length-take, length-drop, drop-of-length-le, List·getD-append}
-use lib.Seq.{getD-append-add, getD-take, getD-drop, set-append-left, drop-drop}
+use lib.Seq.{getD-append-add, getD-take, getD-drop, set-append-left, drop-drop, take-all, take-nil, take-append-add}
 use lib.Pow.{pow-mono, mod-pow-add, mod-mod-pow, field, high, low}
 use Rattle.lists.specs.Every.{Below, below-nil, below-cons, below-head, below-tail, below-append, below-take, below-drop}
 use Rattle.lists.specs.Fill.{splice, splice-length, splice-none, splice-splice}
@@ -199,6 +199,15 @@ unfolding bitsOf
 bits-append [] t = refl
 bits-append (b ∷ s) t = rw (bits-append s t) (sym (append-assoc (lowBits 8 b) (bitsOf s) (bitsOf t)))
 
+-- the bits of the first bytes are the first bits
+pub bits-take : (j : ℕ) (s : List ℕ) → bitsOf (take j s) ≡ take (8 * j) (bitsOf s)
+unfolding bitsOf
+bits-take zero s = refl
+bits-take (suc j) [] = sym (take-nil {A = ℕ} (8 * suc j))
+bits-take (suc j) (b ∷ s) =
+    let e : 8 * suc j ≡ length (lowBits 8 b) + 8 * j = omega (arith, low-length 8 b) in
+    rw (e, take-append-add (lowBits 8 b) (bitsOf s) (8 * j), bits-take j s) refl
+
 -- the bit at a place, by the code's arithmetic
 pub bit-is : (s : List ℕ) (p : ℕ) → p < 8 * length s → getD (bitsOf s) p 0 ≡ getD s (p / 8) 0 / 2 ^ (7 - p % 8) % 2
 unfolding bitsOf
@@ -276,6 +285,11 @@ from-end s place h = drop-of-length-le (take (bitCount s) (bitsOf s)) {i = place
 pub from-split : (s : List ℕ) (place n : ℕ) → place + n ≤ bitCount s → bitsFrom s place ≡ part (bitsOf s) place n ++ bitsFrom s (place + n)
 unfolding bitsFrom
 from-split s place n h = rw (← part-take (bitsOf s) (bitCount s) place n h) (part-rest (take (bitCount s) (bitsOf s)) place n)
+
+-- in a buffer whose bits all have a place
+pub from-small : (s : List ℕ) (place : ℕ) → 8 * length s < 2 ^ 64 → bitsFrom s place ≡ drop place (bitsOf s)
+unfolding bitsFrom bitCount
+from-small s place h = ap (λ (l : List ℕ). drop place l) (take-all (min (8 * length s) (2 ^ 64 - 1)) (bitsOf s) (omega (arith, bits-length s)))
 
 -- buffers of one length have as many bits
 pub count-same : (s t : List ℕ) → length s ≡ length t → bitCount s ≡ bitCount t

@@ -3,22 +3,23 @@
 --     ue-stands, se-stands          where a code stands it is read, whatever is around it
 --     ue-written-read, se-written-read   reading what was written gives the number and the place behind it
 --     ue-only, se-only              what is read is exactly the code of the number answered, in its place
+--     ue-grow                       a code that is read in the first bytes of a buffer is read in the buffer
 --     ue-cut, se-cut                a buffer that ends inside a code: no code is read
 -- Assumes nothing.
 use mathlib.Core.Path.{_≡_, refl, sym, ap, _∙_}
 use mathlib.Core.List.{List, [], _++_}
 use mathlib.Core.Bool.{Bool, true, false}
-use Prim.Native.Nat.{ℕ, _+_, _-_, _^_, _≤_, _<_}
+use Prim.Native.Nat.{ℕ, _+_, _-_, _*_, _^_, _≤_, _<_}
 use native.Mathlib.Omega.{arith}
 use native.Mathlib.Nat.{add-zero}
 use lib.IntN.{ℤ, natAbs}
-use lib.ListN.{length, take, drop, length-append}
+use lib.ListN.{length, take, drop, length-append, length-take}
 use borrow.Author.Tests.{leb-true}
 use Rattle.lists.specs.Every.{Below, below-splice}
 use Rattle.lists.specs.Fill.{splice, splice-length}
-use Rattle.lists.specs.Part.{part, part-between, splice-part}
+use Rattle.lists.specs.Part.{part, part-between, part-take, splice-part}
 use Rattle.lists.specs.Test.{either}
-use Rattle.bits.specs.Bits.{bitsOf, bitsFrom, bitCount, bits-length, bits-below, count-length, count-same, from-split, from-below, from-length, from-part}
+use Rattle.bits.specs.Bits.{bitsOf, bitsFrom, bitCount, bits-length, bits-below, bits-take, count-length, count-same, from-split, from-below, from-length, from-part}
 use Rattle.bits.specs.Pack.{packed, bits-packed-whole}
 use Rattle.golomb.specs.Code.{ue, ue-below, ue-long}
 use Rattle.golomb.specs.Read.{whole, codeNum, codeBits, read-ue, ue-read, ue-prefix}
@@ -132,6 +133,19 @@ se-only s place x p e = go (readUe s place) refl
         let t : readSe s place ≡ Se.NoCode = se-is s place ∙ ap signed w in
         let z : _≡_ {A = ℕ} 0 1 = cc in
         absurd (omega arith)
+
+-- ---- more bytes behind
+
+pub ue-grow : (s : List ℕ) (j place x p : ℕ) → readUe (take j s) place ≡ Ue.Number x p → readUe s place ≡ Ue.Number x p
+unfolding bitCount
+ue-grow s j place x p e =
+    let o = ue-only (take j s) place x p e in
+    let t = o .1 in
+    let n : ℕ = length (ue x) in
+    let l = length-take j s in
+    let few : place + n ≤ bitCount s = omega (arith, t .behind, t .inside) in
+    let bits : part (bitsOf s) place n ≡ ue x = sym (part-take (bitsOf s) (8 * j) place n (omega (arith, t .behind, t .inside))) ∙ (rw (bits-take j s) at (t .bits)) in
+    ue-stands s place x (bitsFrom s (place + n)) (o .0) (from-split s place n few ∙ ap (λ (v : List ℕ). v ++ bitsFrom s (place + n)) bits) ∙ ap (λ (q : ℕ). Ue.Number x q) (sym (t .behind))
 
 -- ---- a strict prefix of a code
 

@@ -13,6 +13,7 @@ use native.Mathlib.Omega.{arith}
 use native.Mathlib.Decide.{decLe}
 use mathlib.Core.Logic.{inl, inr}
 use lib.Dec.{T, eqb, eqb→eq}
+use borrow.Author.Tests.{eq-eqb}
 
 unfoldable pub allBelow : ℕ → (ℕ → Bool) → Bool
 allBelow zero f = true
@@ -58,6 +59,11 @@ same→eq [] [] t = refl
 same→eq [] (y ∷ ys) t = absurd t
 same→eq (x ∷ xs) [] t = absurd t
 same→eq (x ∷ xs) (y ∷ ys) t = rw (eqb→eq x y (left (eqb x y) (same xs ys) t), same→eq xs ys (right (eqb x y) (same xs ys) t)) refl
+
+pub same-refl : (xs : List ℕ) → same xs xs ≡ true
+unfolding same
+same-refl [] = refl
+same-refl (x ∷ xs) = rw (eq-eqb x x refl, same-refl xs) refl
 
 pub either {ℓ} : {X : Type ℓ} (a b : ℕ) → (a ≤ b → X) → (b < a → X) → X
 either a b f g = elim (decLe a b) [ yes h ↦ f h | no h ↦ g (lt-of-not-le h) ]

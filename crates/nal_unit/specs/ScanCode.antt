@@ -8,7 +8,7 @@
 -- Assumes nothing.
 use mathlib.Core.Path.{_≡_, refl, sym, ap, _∙_}
 use mathlib.Core.List.{List, [], _∷_, _++_}
-use mathlib.Core.Bool.{Bool, true, false, cond, _&&_, _||_, and-assoc, or-true, true≢false}
+use mathlib.Core.Bool.{Bool, true, false, cond, _&&_, _||_, and-assoc, or-true, true≢false, and-eq-true-iff}
 use Prim.Native.Nat.{ℕ, zero, suc, _+_, _-_, _*_, _/_, _≤_, _<_}
 use native.Mathlib.Nat.{add-zero, add-assoc, mod-eq-of-lt}
 use native.Mathlib.Omega.{arith}
@@ -18,7 +18,7 @@ use lib.ListN.{length, take, drop, getD, length-take, length-drop, drop-of-lengt
 use lib.Seq.{length-take-le, take-take, take-add, drop-drop, getD-take, getD-drop}
 use borrow.Author.Tests.{lt-ltb, eqb-true, eqb-false, eq-eqb, ne-eqb, le-leb, lt-leb, leb-true, leb-false}
 use Rattle.lists.specs.Part.{part, drop-step}
-use Rattle.lists.specs.Test.{either, both}
+use Rattle.lists.specs.Test.{either}
 use Rattle.nal_unit.specs.StartCode.{code, next, code-is, code-first, next-le, next-past, next-there}
 use Rattle.nal_unit.specs.Scan.{code-at, next-step, trim-zero, trim-last, fault-at}
 use Rattle.nal_unit.specs.Unescape.{over3, faultHere, fault, fault-nil, fault-past}
@@ -235,16 +235,16 @@ unfolding faultHere over3
 fault-is [] e = absurd (true≢false (sym e))
 fault-is (a ∷ []) e = absurd (true≢false (sym e))
 fault-is (a ∷ b ∷ []) e = absurd (true≢false (sym e))
-fault-is (a ∷ b ∷ c ∷ t) e = by t (both (eqb a 0) (eqb b 0 && (leb c 2 || (eqb c 3 && over3 t))) e)
+fault-is (a ∷ b ∷ c ∷ t) e = by t (and-eq-true-iff (eqb a 0) (eqb b 0 && (leb c 2 || (eqb c 3 && over3 t))) .0 e)
   where
     third : (t : List ℕ) (p : Bool) → leb c 2 ≡ p → (p || (eqb c 3 && over3 t)) ≡ true → Fault (0 ∷ 0 ∷ c ∷ t)
     third t true l e = low (leb-true c 2 l)
-    third [] false l e = absurd (true≢false (sym (both (eqb c 3) false e .1)))
-    third (d ∷ t) false l e = let q = both (eqb c 3) (leb 4 d) e in rw (eqb-true c 3 (q .0)) (high (leb-true 4 d (q .1)))
+    third [] false l e = absurd (true≢false (sym (and-eq-true-iff (eqb c 3) false .0 e .1)))
+    third (d ∷ t) false l e = let q = and-eq-true-iff (eqb c 3) (leb 4 d) .0 e in rw (eqb-true c 3 (q .0)) (high (leb-true 4 d (q .1)))
 
     by : (t : List ℕ) → (eqb a 0 ≡ true) × ((eqb b 0 && (leb c 2 || (eqb c 3 && over3 t))) ≡ true) → Fault (a ∷ b ∷ c ∷ t)
     by t p =
-        let q = both (eqb b 0) (leb c 2 || (eqb c 3 && over3 t)) (p .1) in
+        let q = and-eq-true-iff (eqb b 0) (leb c 2 || (eqb c 3 && over3 t)) .0 (p .1) in
         rw (eqb-true a 0 (p .0), eqb-true b 0 (q .0)) (third t (leb c 2) refl (q .1))
 
 -- and the other way round
@@ -305,8 +305,8 @@ fault-behind (x ∷ s) t e = rw (fault-behind s t e) (or-true (faultHere (x ∷ 
 blank-at : (l : List ℕ) (i : ℕ) → blank l ≡ true → getD l i 0 ≡ 0
 unfolding blank
 blank-at [] i e = refl
-blank-at (x ∷ l) zero e = eqb-true x 0 (both (eqb x 0) (blank l) e .0)
-blank-at (x ∷ l) (suc i) e = blank-at l i (both (eqb x 0) (blank l) e .1)
+blank-at (x ∷ l) zero e = eqb-true x 0 (and-eq-true-iff (eqb x 0) (blank l) .0 e .0)
+blank-at (x ∷ l) (suc i) e = blank-at l i (and-eq-true-iff (eqb x 0) (blank l) .0 e .1)
 
 -- a byte above 0 among the first n is not taken off
 trim-keeps : (s : List ℕ) (n j : ℕ) → j < n → n ≤ length s → 0 < getD s j 0 → j < length (trim (take n s))

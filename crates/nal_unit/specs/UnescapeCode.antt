@@ -8,7 +8,7 @@
 -- Assumes nothing.
 use mathlib.Core.Path.{_≡_, refl, sym, ap, _∙_}
 use mathlib.Core.List.{List, [], _∷_, _++_}
-use mathlib.Core.Bool.{Bool, true, false, cond, _&&_, and-true, and-false, and-assoc}
+use mathlib.Core.Bool.{Bool, true, false, cond, _&&_, and-true, and-false, and-assoc, and-eq-true-iff}
 use Prim.Native.Nat.{ℕ, zero, suc, _+_, _-_, _≤_, _<_}
 use native.Mathlib.Numerals.{add-one}
 use native.Mathlib.Nat.{add-zero, zero-add, suc-add}
@@ -18,7 +18,6 @@ use lib.Bits.{bitOr, bitXor}
 use lib.ListN.{length, take, drop, getD, set, length-append, drop-of-length-le}
 use borrow.Author.Tests.{eqb-true, le-leb, lt-leb}
 use Rattle.lists.specs.Part.{part, drop-step, part-cons, part-none}
-use Rattle.lists.specs.Test.{both}
 use Rattle.lists.specs.Fill.{splice, splice-none, set-splice, Writing, start-at, puts, puts-room, done-at}
 use Rattle.nal_unit.specs.ScanCode.{or-three, xor-zero}
 use Rattle.nal_unit.specs.Escape.{esc}
@@ -178,7 +177,7 @@ un-from (suc n) s p z h c = rw (drop-step s p (omega arith), un-cons z (getD s p
   where
     by : (b : Bool) → markAt s p ≡ b → ((y : ℕ) → Counted s (p + 1) y → unFrom y (drop (p + 1) s) ≡ unPart s (p + 1) n)
         → cond b (unFrom 0 (drop (p + 1) s)) (getD s p 0 ∷ unFrom (counted z (getD s p 0)) (drop (p + 1) s)) ≡ cond b (unPart s (p + 1) n) (getD s p 0 ∷ unPart s (p + 1) n)
-    by true e ih = ih 0 (rw (add-one p) (counted-mark s p (eqb-true (getD s p 0) 3 (both (zerosBefore s p) (eqb (getD s p 0) 3) e .1))))
+    by true e ih = ih 0 (rw (add-one p) (counted-mark s p (eqb-true (getD s p 0) 3 (and-eq-true-iff (zerosBefore s p) (eqb (getD s p 0) 3) .0 e .1))))
     by false e ih = ap (λ (l : List ℕ). getD s p 0 ∷ l) (ih (counted z (getD s p 0)) (rw (add-one p) (counted-on s p z c)))
 
 -- the payload of all bytes

@@ -5,3 +5,5 @@ pub mod Grid
 pub mod Filling
 pub mod Blocks
 pub mod Formed
+pub mod Header
+pub mod Picture

@@ -1,0 +1,6 @@
+pub mod Sps
+pub mod Pps
+pub mod Split
+pub mod Read
+pub mod Prefix
+pub mod Cases

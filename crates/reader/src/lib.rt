@@ -1,0 +1,1 @@
+// The reader: one call, one answer, over a lent take.

@@ -1,0 +1,108 @@
+-- What the reader answers about the units that the writer writes: for one accepted call, exactly what was written. Assumes nothing.
+use mathlib.Core.Path.{_≡_, refl, sym, ap, _∙_}
+use mathlib.Core.List.{List, [], _∷_, _++_}
+use mathlib.Core.Bool.{Bool, true, false, cond, not, _&&_, _||_}
+use mathlib.Core.Option.{Option, none, some}
+use Prim.Native.Nat.{ℕ, _+_, _-_, _≤_, _<_}
+use native.Mathlib.Omega.{arith}
+use lib.Dec.{leb, ltb, eqb}
+use lib.ListN.{length}
+use borrow.Author.Tests.{le-ltb}
+use Rattle.lists.specs.Test.{same, same-refl}
+use Rattle.nal_unit.specs.Escape.{esc}
+use Rattle.nal_unit.specs.Unescape.{un, un-esc, fault}
+use Rattle.nal_unit.specs.Units.{fault-unit}
+use Rattle.nal_unit.specs.Calls.{Verdict}
+use Rattle.parameter_sets.specs.Sps.{spsPayload, baseLevel}
+use Rattle.parameter_sets.specs.Pps.{ppsPayload}
+use Rattle.parameter_sets.specs.Read.{readSps, sps-whole}
+use Rattle.slice.specs.Picture as P
+use Rattle.ycbcr_image.specs.declared.BitDepth.{BitDepth}
+use Rattle.ycbcr_image.specs.declared.BitDepth.the-variants.{Depth8, Depth12}
+use Rattle.ycbcr_image.specs.declared.Kind.{Kind}
+use Rattle.ycbcr_image.specs.declared.Kind.the-variants.{Mono, Colour}
+use Rattle.ycbcr_image.specs.declared.Session.{Session}
+use Rattle.ycbcr_image.specs.Accepted.{Fine}
+use Rattle.ycbcr_image.specs.Form.{formOf}
+use Rattle.ycbcr_image.specs.Sizes.{Sequence, sequenceOf, tightLength}
+use Rattle.ycbcr_image.specs.Refusals.{accepted}
+use Rattle.encoder.specs.Units.{spsUnit, ppsUnit, pictureUnit}
+use Rattle.reader.specs.Judge.{Held, nothing, Samples, Word, sps, pps, picture, refused, possible, counted, keep, spsVerdict, ppsVerdict, short, samplesOf, pictureVerdict, heldVerdict, unitVerdict, judge}
+
+-- an accepted session is a possible state
+pub session-possible : (s : Session) → accepted (sequenceOf s) ≡ true → possible (sequenceOf s) ≡ true
+unfolding possible
+session-possible s t = rw t (go (s .kind) (s .depth))
+  where
+    go : (k : Kind) (d : BitDepth) → (leb (formOf k d .chroma) 1 && (eqb (formOf k d .depth) 8 || eqb (formOf k d .depth) 12)) ≡ true
+    go Mono Depth8 = refl
+    go Mono Depth12 = refl
+    go Colour Depth8 = refl
+    go Colour Depth12 = refl
+
+-- what the take's sets leave held
+abbrev pub having : Sequence → Bool → Held
+having q b = record { sps = some q; pps = b }
+
+-- a possible state counts as it is
+pub counted-is : (q : Sequence) (b : Bool) → possible q ≡ true → counted (having q b) ≡ having q b
+unfolding counted
+counted-is q b e = rw e refl
+
+-- the visible samples of the lent planes
+abbrev pub visibleOf : Sequence → P.Lends → Samples
+visibleOf q L = record { y = P.visibleIn q 0 (L .y); cb = P.visibleIn q 1 (L .cb); cr = P.visibleIn q 2 (L .cr) }
+
+module _ (room : ℕ → ℕ) where
+  -- a unit of a nonzero header and an escape goes to the verdict by its header
+  judge-unit : (h : Held) (x : ℕ) (p : List ℕ) → 0 < x → judge room h (x ∷ esc p) ≡ unitVerdict room h x p
+  unfolding judge
+  judge-unit h x p l = rw (fault-unit x p l, un-esc 0 p) refl
+
+  verdict-sps : (s : Session) → accepted (sequenceOf s) ≡ true
+      → unitVerdict room nothing 0x67 (spsPayload baseLevel (sequenceOf s)) ≡ record { word = sps (sequenceOf s); held = having (sequenceOf s) false; stay = false }
+  unfolding unitVerdict spsVerdict counted
+  verdict-sps s t = rw (sps-whole baseLevel s t) refl
+
+  -- the sequence parameter set, read with nothing held
+  pub judged-sps : (s : Session) → accepted (sequenceOf s) ≡ true
+      → judge room nothing (spsUnit (sequenceOf s)) ≡ record { word = sps (sequenceOf s); held = having (sequenceOf s) false; stay = false }
+  unfolding spsUnit
+  judged-sps s t = judge-unit nothing 0x67 (spsPayload baseLevel (sequenceOf s)) (omega arith) ∙ verdict-sps s t
+
+  verdict-pps : (q : Sequence) → possible q ≡ true → unitVerdict room (having q false) 0x68 ppsPayload ≡ record { word = pps; held = having q true; stay = false }
+  unfolding unitVerdict ppsVerdict
+  verdict-pps q e = rw (counted-is q false e, same-refl ppsPayload) refl
+
+  -- the picture parameter set behind it
+  pub judged-pps : (q : Sequence) → possible q ≡ true → judge room (having q false) ppsUnit ≡ record { word = pps; held = having q true; stay = false }
+  unfolding ppsUnit
+  judged-pps q e = judge-unit (having q false) 0x68 ppsPayload (omega arith) ∙ verdict-pps q e
+
+  -- a picture unit with both sets held
+  verdict-picture : (q : Sequence) (X : List ℕ) → possible q ≡ true → unitVerdict room (having q true) 0x25 X ≡ pictureVerdict room (having q true) q X
+  unfolding unitVerdict heldVerdict
+  verdict-picture q X e = rw (counted-is q true e) refl
+
+  -- the planes lent are large enough
+  pub record Enough (q : Sequence) : Type 0 where
+    pub y : tightLength q 0 ≤ room 0
+    pub cb : tightLength q 1 ≤ room 1
+    pub cr : tightLength q 2 ≤ room 2
+
+  pub not-short : (q : Sequence) → Enough q → short room q ≡ false
+  unfolding short
+  not-short q n = rw (le-ltb (room 0) (tightLength q 0) (n .y), le-ltb (room 1) (tightLength q 1) (n .cb), le-ltb (room 2) (tightLength q 2) (n .cr)) refl
+
+  accepted-picture : (q : Sequence) (L : P.Lends) → Fine q → P.Whole q L → Enough q → pictureVerdict room (having q true) q (P.pictureOf q L) ≡ keep (having q true) (picture (visibleOf q L))
+  unfolding pictureVerdict
+  accepted-picture q L g w n =
+      let l = P.picture-length q L g w in
+      rw (le-ltb (length (P.pictureOf q L)) (P.pictureLength q) (omega arith), le-ltb (P.pictureLength q) (length (P.pictureOf q L)) (omega arith), P.picture-right q L g w, not-short q n)
+      (rw (P.picture-back q L g w 0 (omega arith), P.picture-back q L g w 1 (omega arith), P.picture-back q L g w 2 (omega arith)) refl)
+
+  -- a picture, with both sets held and planes that are large enough: its visible samples
+  pub judged-picture : (q : Sequence) (L : P.Lends) → possible q ≡ true → Fine q → P.Whole q L → Enough q
+      → judge room (having q true) (pictureUnit q L) ≡ keep (having q true) (picture (visibleOf q L))
+  unfolding pictureUnit
+  judged-picture q L e g w n = judge-unit (having q true) 0x25 (P.pictureOf q L) (omega arith) ∙ (verdict-picture q (P.pictureOf q L) e ∙ accepted-picture q L g w n)

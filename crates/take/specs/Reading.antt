@@ -1,0 +1,148 @@
+-- Reading a take: with both sets held no unit changes them, the units of a take are met whole, and each is answered with its word. Assumes nothing.
+use mathlib.Core.Path.{_≡_, refl, sym, ap, _∙_}
+use mathlib.Core.List.{List, [], _∷_, _++_}
+use mathlib.Core.Bool.{Bool, true, false, cond, not, _&&_, _||_}
+use mathlib.Core.Option.{Option, none, some}
+use Prim.Native.Nat.{ℕ, zero, suc, _+_, _≤_, _<_}
+use native.Mathlib.Omega.{arith}
+use lib.Dec.{ltb, eqb}
+use lib.ListN.{length}
+use Rattle.lists.specs.Test.{same}
+use Rattle.nal_unit.specs.Unescape.{un, fault}
+use Rattle.nal_unit.specs.Walk.{Whole}
+use Rattle.nal_unit.specs.Calls.{Verdict, Say, said, Full}
+use Rattle.nal_unit.specs.Frame.{Goes, Wholes, says, heldBy, placeBy, goes-full, held-full}
+use Rattle.parameter_sets.specs.Sps.{baseLevel}
+use Rattle.parameter_sets.specs.Pps.{ppsPayload}
+use Rattle.parameter_sets.specs.Read.{readSps}
+use Rattle.slice.specs.Picture as P
+use Rattle.ycbcr_image.specs.declared.Session.{Session}
+use Rattle.ycbcr_image.specs.Sizes.{Sequence, sequenceOf}
+use Rattle.ycbcr_image.specs.Refusals.{sessionBad, sessionOf, ofPicture, accepted}
+use Rattle.ycbcr_image.specs.Passed.{Passed}
+use Rattle.encoder.specs.Units.{spsUnit, ppsUnit, pictureUnit}
+use Rattle.encoder.specs.Shot.{Shot, imageOf, lendsOf, sequenceIn}
+use Rattle.reader.specs.Judge as J
+use Rattle.slice.specs.Header.{headerOf}
+use Rattle.slice.specs.Formed.{right}
+use Rattle.ycbcr_image.specs.Form.{mbBytes}
+use Rattle.reader.specs.Judge.{Held, nothing, Samples, Word, sps, pps, picture, refused, possible, counted, keep, spsVerdict, ppsVerdict, short, pictureVerdict, heldVerdict, unitVerdict, judge}
+use Rattle.take.specs.Last.{sps-unit, pps-unit, picture-unit}
+use Rattle.take.specs.Judged.{session-possible, having, counted-is, judged-sps, judged-pps, judged-picture, Enough, not-short, visibleOf}
+use Rattle.take.specs.Take.{Take, Frames, frames, sizeOf, unitsOf, wordsOf, pictureUnits, pictureWords, samplesOf, shot-whole, Framed, first-framed}
+
+-- words in order, each with the offset of its unit, where the first unit's frame begins at p
+unfoldable pub listed : ℕ → List (List ℕ) → List Word → List (Say Word)
+listed p [] ws = []
+listed p (u ∷ us) [] = []
+listed p (u ∷ us) (w ∷ ws) = said (p + 4) w ∷ listed (p + 4 + length u) us ws
+
+module _ (room : ℕ → ℕ) (q : Sequence) (e : possible q ≡ true) (n : Enough room q) where
+  abbrev h : Held
+  h = having q true
+
+  -- a verdict that keeps what is held and moves on
+  record Keeps (v : Verdict Held Word) : Type 0 where
+    holds : v .held ≡ h
+    moves : v .stay ≡ false
+
+  kept : (w : Word) → Keeps (keep h w)
+  kept w = record { holds = refl; moves = refl }
+
+  keeps-if : (b : Bool) {v w : Verdict Held Word} → Keeps v → Keeps w → Keeps (cond b v w)
+  keeps-if true x y = x
+  keeps-if false x y = y
+
+  keeps-sps : (r : Option Sequence) → Keeps (spsVerdict h h r)
+  unfolding spsVerdict
+  keeps-sps none = kept (refused 14)
+  keeps-sps (some i) = keeps-if (sessionBad q i) (kept (refused 15)) (kept (sps i))
+
+  keeps-pps : (X : List ℕ) → Keeps (ppsVerdict h h X)
+  unfolding ppsVerdict
+  keeps-pps X = keeps-if (same X ppsPayload) (record { holds = refl; moves = refl }) (kept (refused 14))
+
+  keeps-picture : (X : List ℕ) → Keeps (pictureVerdict room h q X)
+  unfolding pictureVerdict
+  keeps-picture X =
+      rw (not-short room q n)
+      (keeps-if (ltb (length X) (P.pictureLength q)) (kept (refused 17))
+      (keeps-if (ltb (P.pictureLength q) (length X) || not (right (headerOf 0 0) (mbBytes (q .form)) (P.mbsIn q) X)) (kept (refused 18)) (kept (picture (J.samplesOf q X)))))
+
+  keeps-unit : (x : ℕ) (X : List ℕ) → Keeps (unitVerdict room h x X)
+  unfolding unitVerdict heldVerdict
+  keeps-unit x X = rw (counted-is q true e) (keeps-if (eqb x 0x67) (keeps-sps (readSps baseLevel X)) (keeps-if (eqb x 0x68) (keeps-pps X) (keeps-if (eqb x 0x25) (keeps-picture X) (kept (refused 13)))))
+
+  keeps : (u : List ℕ) → Keeps (judge room h u)
+  unfolding judge
+  keeps [] = kept (refused 11)
+  keeps (x ∷ t) = keeps-if (fault (x ∷ t)) (kept (refused 12)) (keeps-unit x (un t))
+
+  -- with both sets held and planes large enough, no unit changes what is held, and no call keeps its place
+  pub full : Full (judge room) h
+  full = record { keeps = λ u. keeps u .holds; moves = λ u. keeps u .moves }
+
+  -- pictures of the take's size
+
+  -- one of them: its unit is whole, and its word is its visible samples
+  pub shot-unit : (s : Shot) → Framed q s → Whole (pictureUnit (sequenceIn s) (lendsOf s))
+  shot-unit s f = picture-unit (sequenceIn s) (lendsOf s) (f .pass .fine) (shot-whole s (f .pass))
+
+  shot-word : (s : Shot) → Framed q s → judge room h (pictureUnit (sequenceIn s) (lendsOf s)) ≡ keep h (picture (samplesOf s))
+  shot-word s f =
+      let z = f .size in
+      rw (← z) (judged-picture room (sequenceIn s) (lendsOf s) (rw z e) (f .pass .fine) (shot-whole s (f .pass)) (rw z n))
+
+  pub pictures-whole : (ss : List Shot) → Frames q ss → Wholes (pictureUnits ss)
+  unfolding pictureUnits
+  pictures-whole [] f = tt
+  pictures-whole (s ∷ ss) f = (shot-unit s (f .0), pictures-whole ss (f .1))
+
+  pub pictures-said : (p : ℕ) (ss : List Shot) → Frames q ss → says (judge room) h p (pictureUnits ss) ≡ listed p (pictureUnits ss) (pictureWords ss)
+  unfolding says listed pictureUnits pictureWords
+  pictures-said p [] f = refl
+  pictures-said p (s ∷ ss) f =
+      rw (shot-word s (f .0), pictures-said (p + 4 + length (pictureUnit (sequenceIn s) (lendsOf s))) ss (f .1)) refl
+
+-- the whole take
+module _ (room : ℕ → ℕ) (T : Take) (n : Enough room (sizeOf T)) where
+  abbrev q : Sequence
+  q = sizeOf T
+
+  abbrev z : Session
+  z = sessionOf (imageOf (T .first))
+
+  pub sizes : accepted q ≡ true
+  sizes = first-framed T .pass .sizes
+
+  pub fits : possible q ≡ true
+  fits = session-possible z sizes
+
+  -- the units of a take are whole
+  pub take-goes : Goes (judge room) nothing (unitsOf T)
+  take-goes =
+      rw (judged-sps room z sizes, judged-pps room q fits)
+      (sps-unit q, refl, (pps-unit, refl, goes-full (judge room) (having q true) (pictureUnits (T .first ∷ T .others)) (full room q fits n) (pictures-whole room q fits n (T .first ∷ T .others) (frames T))))
+
+  pub take-held : heldBy (judge room) nothing (unitsOf T) ≡ having q true
+  unfolding heldBy
+  take-held =
+      let us = pictureUnits (T .first ∷ T .others) in
+      ap (λ (v : Verdict Held Word). heldBy (judge room) (judge room (v .held) ppsUnit .held) us) (judged-sps room z sizes)
+      ∙ (ap (λ (v : Verdict Held Word). heldBy (judge room) (v .held) us) (judged-pps room q fits)
+      ∙ held-full (judge room) (having q true) us (full room q fits n))
+
+  -- and each is answered with its word, at its offset
+  pub take-said : (p : ℕ) → says (judge room) nothing p (unitsOf T) ≡ listed p (unitsOf T) (wordsOf T)
+  unfolding says listed
+  take-said p =
+      rw (judged-sps room z sizes, judged-pps room q fits, pictures-said room q fits n (p + 4 + length (spsUnit q) + 4 + length ppsUnit) (T .first ∷ T .others) (frames T)) refl
+
+  -- the two parameter sets alone
+  pub sets-go : Goes (judge room) nothing (spsUnit q ∷ ppsUnit ∷ [])
+  sets-go = rw (judged-sps room z sizes, judged-pps room q fits) (sps-unit q, refl, (pps-unit, refl, tt))
+
+  pub sets-held : heldBy (judge room) nothing (spsUnit q ∷ ppsUnit ∷ []) ≡ having q true
+  unfolding heldBy
+  sets-held =
+      ap (λ (v : Verdict Held Word). judge room (v .held) ppsUnit .held) (judged-sps room z sizes) ∙ ap (λ (v : Verdict Held Word). v .held) (judged-pps room q fits)

@@ -1,0 +1,114 @@
+-- A take (paper 01, "Pictures accepted"): an accepted start call's bytes, then those of each accepted next call, every one given the session that the
+-- accepted call before it left.
+--     Take               the calls
+--     bytesOf, unitsOf   its bytes; its units in order
+--     wordsOf            what there is to be answered about them: size and kind, the picture parameter set, each picture's visible samples
+--     bytes-units        the bytes are the units in a row, each behind 00 00 00 01
+-- Refusal 9 concerns the lent output alone: a call that passes 1 to 8 is accepted as soon as the output has room.
+-- Assumes nothing.
+use mathlib.Core.Path.{_≡_, refl, sym, ap, _∙_}
+use mathlib.Core.List.{List, [], _∷_, _++_}
+use mathlib.Core.Bool.{true}
+use Prim.Native.Nat.{ℕ, zero, suc, _+_, _*_, _≤_, _<_}
+use native.Mathlib.Nat.{mul-assoc}
+use native.Mathlib.Omega.{arith}
+use lib.ListN.{length}
+use Rattle.nal_unit.specs.Frame.{joined, joined-append, joined-tail}
+use Rattle.slice.specs.Picture as P
+use Rattle.ycbcr_image.specs.declared.YCbCrImage.{YCbCrImage}
+use Rattle.ycbcr_image.specs.Form.{planes, blockHeight, blockRowBytes}
+use Rattle.ycbcr_image.specs.Sizes.{Sequence, picWidthInMbs, frameHeightInMbs}
+use Rattle.ycbcr_image.specs.Refusals.{refusalOf, refusalNext, ofPicture, sessionOf, accepted}
+use Rattle.ycbcr_image.specs.Passed.{Passed, passed, passed-next, across, down}
+use Rattle.encoder.specs.Units.{spsUnit, ppsUnit, pictureUnit, startUnits, startBytes, nextBytes}
+use Rattle.encoder.specs.Shot.{Shot, imageOf, lendsOf, sequenceIn}
+use Rattle.reader.specs.Judge.{Samples, Word, sps, pps, picture}
+use Rattle.take.specs.Judged.{visibleOf}
+
+-- the next calls behind a call that left the session q
+abbrev pub Follows : Sequence → List Shot → Type 0
+Follows q [] = Unit {0}
+Follows q (s ∷ ss) = (refusalNext q (imageOf s) ≡ 0) × Follows (sequenceIn s) ss
+
+pub record Take : Type 0 where
+  pub first : Shot
+  pub others : List Shot
+  pub starts : refusalOf (imageOf first) ≡ 0
+  pub follows : Follows (sequenceIn first) others
+
+-- the size and kind of a take
+abbrev pub sizeOf : Take → Sequence
+sizeOf T = sequenceIn (T .first)
+
+unfoldable pub nextsBytes : List Shot → List ℕ
+nextsBytes [] = []
+nextsBytes (s ∷ ss) = nextBytes (sequenceIn s) (lendsOf s) ++ nextsBytes ss
+
+unfoldable pub bytesOf : Take → List ℕ
+bytesOf T = startBytes (sizeOf T) (lendsOf (T .first)) ++ nextsBytes (T .others)
+
+unfoldable pub pictureUnits : List Shot → List (List ℕ)
+pictureUnits [] = []
+pictureUnits (s ∷ ss) = pictureUnit (sequenceIn s) (lendsOf s) ∷ pictureUnits ss
+
+abbrev pub unitsOf : Take → List (List ℕ)
+unitsOf T = spsUnit (sizeOf T) ∷ ppsUnit ∷ pictureUnits (T .first ∷ T .others)
+
+-- a picture's visible samples
+abbrev pub samplesOf : Shot → Samples
+samplesOf s = visibleOf (sequenceIn s) (lendsOf s)
+
+unfoldable pub pictureWords : List Shot → List Word
+pictureWords [] = []
+pictureWords (s ∷ ss) = picture (samplesOf s) ∷ pictureWords ss
+
+abbrev pub wordsOf : Take → List Word
+wordsOf T = sps (sizeOf T) ∷ pps ∷ pictureWords (T .first ∷ T .others)
+
+nexts-units : (ss : List Shot) → nextsBytes ss ≡ joined (pictureUnits ss) []
+unfolding nextsBytes pictureUnits nextBytes joined
+nexts-units [] = refl
+nexts-units (s ∷ ss) =
+    rw (nexts-units ss) (sym (joined-append (pictureUnit (sequenceIn s) (lendsOf s) ∷ []) (pictureUnits ss) [] ∙ joined-tail (pictureUnit (sequenceIn s) (lendsOf s) ∷ []) (joined (pictureUnits ss) [])))
+
+pub bytes-units : (T : Take) → bytesOf T ≡ joined (unitsOf T) []
+unfolding bytesOf startBytes pictureUnits
+bytes-units T =
+    let us = startUnits (sizeOf T) (lendsOf (T .first)) in
+    rw (nexts-units (T .others)) (sym (joined-append us (pictureUnits (T .others)) [] ∙ joined-tail us (joined (pictureUnits (T .others)) [])))
+
+-- a picture that passes is lent whole
+pub shot-whole : (s : Shot) → Passed (imageOf s) → P.Whole (sequenceIn s) (lendsOf s)
+shot-whole s g = record { across = wide; down = high }
+  where
+    wide : (p : ℕ) → p < planes (sequenceIn s .form) → picWidthInMbs (sequenceIn s) * blockRowBytes (sequenceIn s .form) p ≤ P.lendAt (lendsOf s) p .stride
+    wide zero l = across (g .fine) (g .lent 0 l)
+    wide (suc zero) l = across (g .fine) (g .lent 1 l)
+    wide (suc (suc p)) l = across (g .fine) (g .lent (suc (suc p)) l)
+
+    high : (p : ℕ) → p < planes (sequenceIn s .form) → frameHeightInMbs (sequenceIn s) * blockHeight (sequenceIn s .form) p * P.lendAt (lendsOf s) p .stride ≤ length (P.lendAt (lendsOf s) p .bytes)
+    high zero l = rw (mul-assoc (frameHeightInMbs (sequenceIn s)) (blockHeight (sequenceIn s .form) 0) (s .y .stride)) (down (g .fine) (g .lent 0 l))
+    high (suc zero) l = rw (mul-assoc (frameHeightInMbs (sequenceIn s)) (blockHeight (sequenceIn s .form) 1) (s .cb .stride)) (down (g .fine) (g .lent 1 l))
+    high (suc (suc p)) l = rw (mul-assoc (frameHeightInMbs (sequenceIn s)) (blockHeight (sequenceIn s .form) (suc (suc p))) (s .cr .stride)) (down (g .fine) (g .lent (suc (suc p)) l))
+
+-- every picture of a take passes, and is of its size and kind
+pub record Framed (q : Sequence) (s : Shot) : Type 0 where
+  pub size : sequenceIn s ≡ q
+  pub pass : Passed (imageOf s)
+
+pub first-framed : (T : Take) → Framed (sizeOf T) (T .first)
+first-framed T = record { size = refl; pass = passed (imageOf (T .first)) (T .starts) }
+
+next-framed : {q : Sequence} (s : Shot) → refusalNext q (imageOf s) ≡ 0 → Framed q s
+next-framed {q} s e = let p = passed-next q (imageOf s) e in record { size = sym (p .0); pass = p .1 }
+
+abbrev pub Frames : Sequence → List Shot → Type 0
+Frames q [] = Unit {0}
+Frames q (s ∷ ss) = Framed q s × Frames q ss
+
+follows-frames : (q : Sequence) (ss : List Shot) → Follows q ss → Frames q ss
+follows-frames q [] f = tt
+follows-frames q (s ∷ ss) f = let d = next-framed s (f .0) in (d, rw (d .size) at (follows-frames (sequenceIn s) ss (f .1)))
+
+pub frames : (T : Take) → Frames (sizeOf T) (T .first ∷ T .others)
+frames T = (first-framed T, follows-frames (sizeOf T) (T .others) (T .follows))

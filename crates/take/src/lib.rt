@@ -1,0 +1,1 @@
+// What is promised of a take as a whole: see specs/.
