@@ -54,4 +54,3 @@ pub fn rbsp_to_ebsp(rbsp: &[u8], nal: &mut [u8]) -> Escaped
     let at = fast::put_slice(rbsp, 0, rbsp.len(), nal, 0);
     Escaped::Written(at)
 }
-
