@@ -9,7 +9,7 @@
 --     kept-more, kept-plain, kept-end    a stretch by its first byte; count-step, count-end the same of the count
 --     kept-some, kept-room               where something is kept there is a byte, where n are kept there are n
 --     kept-append       two stretches side by side
---     kept-calm         a stretch without inserted bytes is a part of the slice
+--     kept-calm         a stretch without inserted bytes is a part of the slice; calm-part: so is each stretch inside it
 -- Assumes nothing.
 use mathlib.Core.Path.{_≡_, refl, sym, ap, _∙_}
 use mathlib.Core.List.{List, [], _∷_, _++_}
@@ -177,7 +177,17 @@ pub count-append : (s : List ℕ) (p m e : ℕ) → 1 ≤ p → p ≤ m → m �
 count-append s p m e i h k l =
     omega (arith, kept-length s p e (omega arith) l, kept-length s p m h (omega arith), kept-length s m e k l, length-append (kept s p m) (kept s m e), ap length (kept-append s p m e i h k l))
 
--- Calm stretches
+-- Calm stretches: those without inserted bytes
+
+-- what is inside one is another
+pub calm-part : (s : List ℕ) (p e a b : ℕ) → 1 ≤ p → p ≤ a → a ≤ b → b ≤ e → e ≤ length s → insCount s p e ≡ 0 → insCount s a b ≡ 0
+calm-part s p e a b i h k l m z =
+    omega (arith, count-append s p a e i h (omega arith) m, count-append s a b e (omega arith) k l m)
+
+-- two of them that meet or overlap are one
+pub calm-join : (s : List ℕ) (p e a b : ℕ) → 1 ≤ p → p ≤ a → a ≤ b → b ≤ e → e ≤ length s → insCount s p b ≡ 0 → insCount s a e ≡ 0 → insCount s p e ≡ 0
+calm-join s p e a b i h k l m y z =
+    omega (arith, count-append s p a e i h (omega arith) m, count-append s p a b i h k (omega arith))
 
 pub kept-calm : (s : List ℕ) (p e : ℕ) → insCount s p e ≡ 0 → kept s p e ≡ part s p (e - p)
 unfolding kept insCount keep insIn
