@@ -288,9 +288,8 @@ fn take_marked(s: &[u8], p: usize, e: usize, n: usize, out: &mut [u8], at: usize
     take_slow(s, p, e, 2 * n, out, at)
 }
 
-// A row's test looks at 16 bytes at a time, one vector: at some behind a narrower row too, and at some of a wider one twice.
-
-// Takes a row of 8 bytes of the payload to the place `at` of the output, and answers a place behind them.
+// Takes a row of 8 bytes of the payload to the place `at` of the output, and answers a place behind them. Here and below the test looks at 16 bytes at a
+// time, one vector: at some behind a narrower row too, and at some of a wider one twice.
 pub fn take8(s: &[u8], p: usize, e: usize, out: &mut [u8], at: usize) -> usize
     requires { ⌜ (2 ≤ p) × (p ≤ e) × (e ≤ length (now s)) ⌝ }
     requires { ⌜ 8 ≤ length (kept (now s) p e) ⌝ }
