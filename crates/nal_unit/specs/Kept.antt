@@ -1,15 +1,15 @@
 -- A unit's payload by the places of the slice that holds it (7.3.1), with no count carried: a byte is an inserted one exactly if it is 03 and the two
--- bytes before it are 00. The first byte of a unit, its header, is above 0, so that no byte before the unit decides what one of its payload is.
+-- bytes before it are 00. The first byte of a unit, its header, is above 0, so that no byte before the unit decides what one of its payload is. No law
+-- here asks that the unit be without fault.
 --     ins a b x         whether the byte x, behind the bytes a and b, is an inserted one
 --     insAt s p         whether the byte of s at the place p is, where p is 2 or more
 --     kept s p e        the bytes of s from p up to e that are not: what that stretch holds of the payload
 --     insCount s p e    how many are
 --     kept-un           from behind a unit's header up to its end, what is kept is its payload
---     kept-length       what is kept and what was inserted are the stretch
 --     kept-more, kept-plain, kept-end    a stretch by its first byte; count-step, count-end the same of the count
---     kept-some, kept-room               where something is kept there is a byte, where n are kept there are n
---     kept-append       two stretches side by side
---     kept-calm         a stretch without inserted bytes is a part of the slice
+--     kept-length       what is kept and what was inserted are the stretch
+--     kept-append       two stretches side by side; count-append the same of the count
+--     kept-calm         a stretch without inserted bytes is kept as it stands; calm-part, calm-join: inside such a stretch, and of two
 -- Assumes nothing.
 use mathlib.Core.Path.{_≡_, refl, sym, ap, _∙_}
 use mathlib.Core.List.{List, [], _∷_, _++_}
@@ -109,13 +109,14 @@ kept-more s p e i h l t = rw (kept-step s p e i h l, t) refl
 pub kept-plain : (s : List ℕ) (p e : ℕ) → 1 ≤ p → p < e → e ≤ length s → insAt s p ≡ false → kept s p e ≡ getD s p 0 ∷ kept s (p + 1) e
 kept-plain s p e i h l t = rw (kept-step s p e i h l, t) refl
 
+-- at the end nothing is left
 pub kept-end : (s : List ℕ) (p e : ℕ) → e ≤ p → kept s p e ≡ []
 unfolding kept keep
 kept-end s p e h =
     let f : e - p ≡ 0 = omega arith in
     rw (f, part-none s p) refl
 
--- how many inserted bytes there are
+-- the inserted bytes by the first, and at the end
 pub count-step : (s : List ℕ) (p e : ℕ) → 1 ≤ p → p < e → e ≤ length s → insCount s p e ≡ cond (insAt s p) 1 0 + insCount s (p + 1) e
 unfolding insCount insIn insAt
 count-step s p e i h l =
@@ -144,6 +145,7 @@ keep-length a b (x ∷ xs) = by (ins a b x) (keep-length b x xs)
     by true h = omega arith
     by false h = omega arith
 
+-- each byte of a stretch is kept or was inserted
 pub kept-length : (s : List ℕ) (p e : ℕ) → p ≤ e → e ≤ length s → length (kept s p e) + insCount s p e ≡ e - p
 unfolding kept insCount
 kept-length s p e h l = keep-length (getD s (p - 2) 0) (getD s (p - 1) 0) (part s p (e - p)) ∙ part-length s p (e - p) (omega arith)
@@ -156,8 +158,7 @@ kept-some s p e h = either e p (λ l. absurd (omega (arith, ap length (kept-end 
 pub kept-room : (s : List ℕ) (p e n : ℕ) → p ≤ e → e ≤ length s → n ≤ length (kept s p e) → p + n ≤ e
 kept-room s p e n h l k = omega (arith, kept-length s p e h l)
 
--- Two stretches side by side
-
+-- two stretches side by side
 pub kept-append : (s : List ℕ) (p m e : ℕ) → 1 ≤ p → p ≤ m → m ≤ e → e ≤ length s → kept s p e ≡ kept s p m ++ kept s m e
 kept-append s p m e i h k l = by (m - p) p i (omega arith)
   where
@@ -173,12 +174,24 @@ kept-append s p m e i h k l = by (m - p) p i (omega arith)
         both true e = e
         both false e = ap (λ (l : List ℕ). getD s p 0 ∷ l) e
 
+-- their inserted bytes together
 pub count-append : (s : List ℕ) (p m e : ℕ) → 1 ≤ p → p ≤ m → m ≤ e → e ≤ length s → insCount s p e ≡ insCount s p m + insCount s m e
 count-append s p m e i h k l =
     omega (arith, kept-length s p e (omega arith) l, kept-length s p m h (omega arith), kept-length s m e k l, length-append (kept s p m) (kept s m e), ap length (kept-append s p m e i h k l))
 
--- Calm stretches
+-- Calm stretches: those without inserted bytes
 
+-- what is inside one is another
+pub calm-part : (s : List ℕ) (p e a b : ℕ) → 1 ≤ p → p ≤ a → a ≤ b → b ≤ e → e ≤ length s → insCount s p e ≡ 0 → insCount s a b ≡ 0
+calm-part s p e a b i h k l m z =
+    omega (arith, count-append s p a e i h (omega arith) m, count-append s a b e (omega arith) k l m)
+
+-- two of them that meet or overlap are one
+pub calm-join : (s : List ℕ) (p e a b : ℕ) → 1 ≤ p → p ≤ a → a ≤ b → b ≤ e → e ≤ length s → insCount s p b ≡ 0 → insCount s a e ≡ 0 → insCount s p e ≡ 0
+calm-join s p e a b i h k l m y z =
+    omega (arith, count-append s p a e i h (omega arith) m, count-append s p a b i h k (omega arith))
+
+-- it is kept as it stands
 pub kept-calm : (s : List ℕ) (p e : ℕ) → insCount s p e ≡ 0 → kept s p e ≡ part s p (e - p)
 unfolding kept insCount keep insIn
 kept-calm s p e h = all (getD s (p - 2) 0) (getD s (p - 1) 0) (part s p (e - p)) h

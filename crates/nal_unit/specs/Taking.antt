@@ -18,7 +18,7 @@ use lib.Seq.{take-add, take-at, drop-at, drop-drop, length-take-le, getD-drop}
 use borrow.Author.Tests.{eqb-true}
 use Rattle.lists.specs.Fill.{splice, splice-none, splice-length, set-splice, splice-splice}
 use Rattle.lists.specs.Part.{part, part-length}
-use Rattle.nal_unit.specs.Kept.{kept, insCount, kept-un, kept-append, kept-length, kept-calm}
+use Rattle.nal_unit.specs.Kept.{kept, insCount, kept-un, kept-append, kept-length, kept-calm, calm-part}
 use Rattle.nal_unit.specs.Unescape.{un}
 
 -- The next byte
@@ -99,17 +99,18 @@ pub took-stretch : {s : List ℕ} {d : List ℕ} {a : ℕ} {d′ : List ℕ} (p 
 took-stretch {s} p e m n v i h k l f w g =
     record { bytes = rw (kept-split s p e m v i h k l f, take-at v (kept s m e) n w) g; place = pass-stretch p e m n v i h k l f w }
 
--- the payload of n bytes without an inserted one, as a test finds them
-kept-flat : (s : List ℕ) (p n : ℕ) → eqb (insCount s p (p + n)) 0 ≡ true → kept s p (p + n) ≡ part s p n
-kept-flat s p n t =
+-- the first n of m bytes among which a test finds no inserted one
+kept-flat : (s : List ℕ) (p m n : ℕ) → 1 ≤ p → n ≤ m → p + m ≤ length s → eqb (insCount s p (p + m)) 0 ≡ true → kept s p (p + n) ≡ part s p n
+kept-flat s p m n i h l t =
     let w : p + n - p ≡ n = omega arith in
-    kept-calm s p (p + n) (eqb-true (insCount s p (p + n)) 0 t) ∙ ap (λ (k : ℕ). part s p k) w
+    let z = calm-part s p (p + m) p (p + n) i (omega arith) (omega arith) (omega arith) l (eqb-true (insCount s p (p + m)) 0 t) in
+    kept-calm s p (p + n) z ∙ ap (λ (k : ℕ). part s p k) w
 
--- a row of any width where the stretch is calm
-pub took-calm : {s : List ℕ} {d : List ℕ} {a : ℕ} {d′ : List ℕ} (p e n : ℕ) → 1 ≤ p → p + n ≤ e → e ≤ length s → eqb (insCount s p (p + n)) 0 ≡ true
+-- a row of n bytes, of any width, where m bytes are calm
+pub took-calm : {s : List ℕ} {d : List ℕ} {a : ℕ} {d′ : List ℕ} (p e m n : ℕ) → 1 ≤ p → n ≤ m → p + m ≤ e → e ≤ length s → eqb (insCount s p (p + m)) 0 ≡ true
     → d′ ≡ splice d a (part s p n) → Took s p e n d a d′ (p + n)
-took-calm {s} {d} {a} {d′} p e n i h l t g =
-    took-stretch p e (p + n) n (part s p n) i (omega arith) h l (kept-flat s p n t) (part-length s p n (omega arith)) g
+took-calm {s} p e m n i w h l t g =
+    took-stretch p e (p + n) n (part s p n) i (omega arith) (omega arith) l (kept-flat s p m n i w (omega arith) t) (part-length s p n (omega arith)) g
 
 -- A place in the payload
 
@@ -148,8 +149,10 @@ stands-stretch {s} {e} {X} {n} {p} q m v g h l f w =
     let c : drop n X ≡ v ++ kept s q e = sym (g .left) ∙ kept-split s p e q v (omega arith) h l (g .inside) f in
     (rw (c, take-at v (kept s q e) m w) refl, stands-pass g (pass-stretch p e q m v (omega arith) h l (g .inside) f w))
 
--- a calm stretch: the payload's bytes are the slice's
-pub stands-calm : {s : List ℕ} {e : ℕ} {X : List ℕ} {n p : ℕ} (m : ℕ) → Stands s e X n p → p + m ≤ e → eqb (insCount s p (p + m)) 0 ≡ true
-    → (part X n m ≡ part s p m) × Stands s e X (n + m) (p + m)
-stands-calm {s} {e} {X} {n} {p} m g h t =
-    stands-stretch (p + m) m (part s p m) g (omega arith) h (kept-flat s p m t) (part-length s p m (omega (arith, g .inside)))
+-- where m bytes are calm, the payload's next n are the slice's
+pub stands-calm : {s : List ℕ} {e : ℕ} {X : List ℕ} {k p : ℕ} (m n : ℕ) → Stands s e X k p → n ≤ m → p + m ≤ e → eqb (insCount s p (p + m)) 0 ≡ true
+    → (part X k n ≡ part s p n) × Stands s e X (k + n) (p + n)
+stands-calm {s} {e} {X} {k} {p} m n g w h t =
+    let l : e ≤ length s = g .inside in
+    let c = kept-flat s p m n (omega arith) w (omega arith) t in
+    stands-stretch (p + n) n (part s p n) g (omega arith) (omega arith) c (part-length s p n (omega arith))

@@ -1,10 +1,10 @@
--- What the loops of the code that reads a unit's payload keep, turn by turn.
---     ins-bits           the test of an inserted byte, by bits
+-- What the loops of the code that reads a unit's payload keep, turn by turn. Only that code's proofs cite these laws.
+--     ins-bits                the test of an inserted byte, by bits
 --     next-plain, next-more   where the next byte stands
---     Taking             bytes taken one by one
---     Calming, Counting  a stretch tested for inserted bytes, and their count
---     Skipping           bytes passed by counts
---     Pair, Repeats      zeros in pairs, an inserted byte in each: what a dark picture's payload is in the unit
+--     Taking                  bytes taken one by one
+--     Calming, Counting       a stretch tested for inserted bytes, and their count
+--     Skipping                bytes passed by counts
+--     Pair, Repeats           zeros in pairs, an inserted byte in each: what a black picture's payload is in the unit
 -- Assumes nothing.
 use mathlib.Core.Path.{_≡_, refl, sym, ap, _∙_}
 use mathlib.Core.List.{List, [], _∷_, _++_}
@@ -43,6 +43,28 @@ pub ins-bits : (a b x : ℕ) → eqb (bitOr (bitOr a b) (bitXor x 3)) 0 ≡ ins 
 unfolding ins
 ins-bits a b x = rw (or-none (bitOr a b) (bitXor x 3), or-none a b, xor-none x 3) (and-assoc (eqb a 0) (eqb b 0) (eqb x 3))
 
+-- the byte at q is an inserted one: it is 03, and the bytes at a and b, before it, are zeros
+ins-is : (s : List ℕ) (a b q : ℕ) → a + 2 ≡ q → b + 1 ≡ q → insAt s q ≡ true → (getD s a 0 ≡ 0) × (getD s b 0 ≡ 0) × (getD s q 0 ≡ 3)
+unfolding insAt ins
+ins-is s a b q h k t =
+    let f : q - 2 ≡ a = omega arith in
+    let g : q - 1 ≡ b = omega arith in
+    let u : eqb (getD s a 0) 0 && (eqb (getD s b 0) 0 && eqb (getD s q 0) 3) ≡ true = rw (f, g) at t in
+    let v = and-eq-true-iff (eqb (getD s a 0) 0) (eqb (getD s b 0) 0 && eqb (getD s q 0) 3) .0 u in
+    let w = and-eq-true-iff (eqb (getD s b 0) 0) (eqb (getD s q 0) 3) .0 (v .1) in
+    (eqb-true (getD s a 0) 0 (v .0), eqb-true (getD s b 0) 0 (w .0), eqb-true (getD s q 0) 3 (w .1))
+
+is-ins : (s : List ℕ) (a b q : ℕ) → a + 2 ≡ q → b + 1 ≡ q → getD s a 0 ≡ 0 → getD s b 0 ≡ 0 → getD s q 0 ≡ 3 → insAt s q ≡ true
+unfolding insAt ins
+is-ins s a b q h k x y z =
+    let f : q - 2 ≡ a = omega arith in
+    let g : q - 1 ≡ b = omega arith in
+    rw (f, g, x, y, z) refl
+
+zero-plain : (s : List ℕ) (q : ℕ) → getD s q 0 ≡ 0 → insAt s q ≡ false
+unfolding insAt ins
+zero-plain s q h = rw h (simp and-false)
+
 -- The next byte
 
 pub next-plain : (s : List ℕ) (p e : ℕ) → 2 ≤ p → e ≤ length s → 0 < length (kept s p e) → insAt s p ≡ false → Next s p e p
@@ -56,12 +78,9 @@ unfolding insAt ins
 next-more s p e i l h t =
     let k = kept-more s p e (omega arith) (kept-some s p e h) l t in
     let n = kept-some s (p + 1) e (rw k at h) in
-    let x : getD s p 0 ≡ 3 = eqb-true (getD s p 0) 3 (and-eq-true-iff (eqb (getD s (p - 1) 0) 0) (eqb (getD s p 0) 3) .0
-    (and-eq-true-iff (eqb (getD s (p - 2) 0) 0) (eqb (getD s (p - 1) 0) 0 && eqb (getD s p 0) 3) .0 t .1) .1) in
+    let x = ins-is s (p - 2) (p - 1) p (omega arith) (omega arith) t .2 in
     let q : p + 1 - 1 ≡ p = omega arith in
     record { first = k ∙ kept-plain s (p + 1) e (omega arith) n l (rw (q, x) (and-false (eqb (getD s (p + 1 - 2) 0) 0))); low = omega arith; high = n }
-
--- Taking
 
 -- Bytes taken one by one, with an inserted byte written too and then written over: i bytes of n were taken, q is the place behind them, and `over` stands
 -- in the buffer behind them, until all are taken.
@@ -205,7 +224,6 @@ skip-turn {s} {p} {e} {n} {q} {left} g i l =
     let B = kept s (q + left) e in
     let w = kept-append s q (q + left) e i (omega arith) (g .high) l in
     let a : length A + m ≡ left = kept-length s q (q + left) (omega arith) (omega arith) ∙ (omega arith) in
-    let f : left ≡ length A + m = sym a in
     let k : length (kept s q e) ≡ length A + length B = ap length w ∙ length-append A B in
     let z : m ≤ length B = omega (arith, g .enough) in
     record {
@@ -219,28 +237,6 @@ pub skip-end : {s : List ℕ} {p e n q : ℕ} → Skipping s p e n q 0 → Passe
 skip-end g = record { left = g .rest; low = omega arith; high = omega arith }
 
 -- Pairs of zeros
-
--- the byte at q is an inserted one: it is 03, and the bytes at a and b, before it, are zeros
-ins-is : (s : List ℕ) (a b q : ℕ) → a + 2 ≡ q → b + 1 ≡ q → insAt s q ≡ true → (getD s a 0 ≡ 0) × (getD s b 0 ≡ 0) × (getD s q 0 ≡ 3)
-unfolding insAt ins
-ins-is s a b q h k t =
-    let f : q - 2 ≡ a = omega arith in
-    let g : q - 1 ≡ b = omega arith in
-    let u : eqb (getD s a 0) 0 && (eqb (getD s b 0) 0 && eqb (getD s q 0) 3) ≡ true = rw (f, g) at t in
-    let v = and-eq-true-iff (eqb (getD s a 0) 0) (eqb (getD s b 0) 0 && eqb (getD s q 0) 3) .0 u in
-    let w = and-eq-true-iff (eqb (getD s b 0) 0) (eqb (getD s q 0) 3) .0 (v .1) in
-    (eqb-true (getD s a 0) 0 (v .0), eqb-true (getD s b 0) 0 (w .0), eqb-true (getD s q 0) 3 (w .1))
-
-is-ins : (s : List ℕ) (a b q : ℕ) → a + 2 ≡ q → b + 1 ≡ q → getD s a 0 ≡ 0 → getD s b 0 ≡ 0 → getD s q 0 ≡ 3 → insAt s q ≡ true
-unfolding insAt ins
-is-ins s a b q h k x y z =
-    let f : q - 2 ≡ a = omega arith in
-    let g : q - 1 ≡ b = omega arith in
-    rw (f, g, x, y, z) refl
-
-zero-plain : (s : List ℕ) (q : ℕ) → getD s q 0 ≡ 0 → insAt s q ≡ false
-unfolding insAt ins
-zero-plain s q h = rw h (simp and-false)
 
 -- the three bytes from p on are two zeros of payload and an inserted byte, which is the first of them, the second or the third
 pub data Pair (s : List ℕ) (p : ℕ) : Type 0 where

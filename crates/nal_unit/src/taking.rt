@@ -288,16 +288,19 @@ fn take_marked(s: &[u8], p: usize, e: usize, n: usize, out: &mut [u8], at: usize
     take_slow(s, p, e, 2 * n, out, at)
 }
 
-// Takes a row of 8 bytes of the payload to the place `at` of the output, and answers a place behind them.
+// Takes a row of 8 bytes of the payload to the place `at` of the output, and answers a place behind them. Here and below the test looks at 16 bytes at a
+// time, one vector: at some behind a narrower row too, and at some of a wider one twice.
 pub fn take8(s: &[u8], p: usize, e: usize, out: &mut [u8], at: usize) -> usize
     requires { ⌜ (2 ≤ p) × (p ≤ e) × (e ≤ length (now s)) ⌝ }
     requires { ⌜ 8 ≤ length (kept (now s) p e) ⌝ }
     requires { ⌜ at + 8 ≤ length (now out) ⌝ }
     ensures { λ r. ⌜ Took (now (s .entry)) p e 8 (now (out .entry)) at (now (out .exit)) r ⌝ }
 {
-    if calm(s, p, 8) {
-        copy8(s, p, out, at);
-        return p + 8;
+    if e - p >= 16 {
+        if calm(s, p, 16) {
+            copy8(s, p, out, at);
+            return p + 8;
+        }
     }
     take_marked(s, p, e, 4, out, at)
 }
@@ -309,9 +312,11 @@ pub fn take12(s: &[u8], p: usize, e: usize, out: &mut [u8], at: usize) -> usize
     requires { ⌜ at + 12 ≤ length (now out) ⌝ }
     ensures { λ r. ⌜ Took (now (s .entry)) p e 12 (now (out .entry)) at (now (out .exit)) r ⌝ }
 {
-    if calm(s, p, 12) {
-        copy12(s, p, out, at);
-        return p + 12;
+    if e - p >= 16 {
+        if calm(s, p, 16) {
+            copy12(s, p, out, at);
+            return p + 12;
+        }
     }
     take_marked(s, p, e, 6, out, at)
 }
@@ -337,9 +342,11 @@ pub fn take24(s: &[u8], p: usize, e: usize, out: &mut [u8], at: usize) -> usize
     requires { ⌜ at + 24 ≤ length (now out) ⌝ }
     ensures { λ r. ⌜ Took (now (s .entry)) p e 24 (now (out .entry)) at (now (out .exit)) r ⌝ }
 {
-    if calm(s, p, 24) {
-        copy24(s, p, out, at);
-        return p + 24;
+    if calm(s, p, 16) {
+        if calm(s, p + 8, 16) {
+            copy24(s, p, out, at);
+            return p + 24;
+        }
     }
     take_marked(s, p, e, 12, out, at)
 }

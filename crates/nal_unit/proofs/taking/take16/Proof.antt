@@ -28,7 +28,7 @@ returns : tie.Need-returns
 returns c =
     let k = c .before .before .before .before .before in
     let a = k .before .before .before .args in
-    took-calm (a .p) (a .e) 16 (omega arith) (fits (k .before .before .before)) (omega arith) (sym (k .calm .ensures) ∙ c .before .before .before .before .if1 .taken) (c .before .before .copy16 .ensures)
+    took-calm (a .p) (a .e) 16 16 (omega arith) (omega arith) (fits (k .before .before .before)) (omega arith) (sym (k .calm .ensures) ∙ c .before .before .before .before .if1 .taken) (c .before .before .copy16 .ensures)
 
 take-marked-requires : tie.Need-take-marked-requires
 take-marked-requires c κs = search needs

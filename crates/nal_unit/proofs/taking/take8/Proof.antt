@@ -1,22 +1,19 @@
 -- `nal_unit::taking::take8` meets its contract: a calm row is copied as it stands. Assumes nothing.
 use mathlib.Core.Path.{sym, _∙_}
-use Prim.Native.Nat.{_+_, _≤_}
 use native.Mathlib.Omega.{arith}
-use Rattle.nal_unit.specs.Kept.{kept-room}
 use Rattle.nal_unit.specs.Taking.{took-calm}
 use borrow.Author.Needs.{needs}
 use Rattle.nal_unit.proofs.taking.take8.Statement.{statement}
 use Rattle.nal_unit.proofs.taking.take8.Tie as tie
 
--- the row is in the unit
-fits : (k : tie.Start) → k .args .p + 8 ≤ k .args .e
-fits k = kept-room (k .args .s .now) (k .args .p) (k .args .e) 8 (k .pre .0 .1) (k .pre .0 .2) (k .pre .1 .0)
+sub-if1 : tie.Need-sub-if1
+sub-if1 c = search needs
 
 calm-requires : tie.Need-calm-requires
-calm-requires c κs = let f = fits (c .before .before) in (omega arith, omega arith)
+calm-requires c κs = search needs
 
 copy8-requires : tie.Need-copy8-requires
-copy8-requires c κs = let f = fits (c .before .before .before .before .before) in (omega arith, omega arith)
+copy8-requires c κs = search needs
 
 add-result : tie.Need-add-result
 add-result c = search needs
@@ -27,8 +24,8 @@ same-length c = search needs
 returns : tie.Need-returns
 returns c =
     let k = c .before .before .before .before .before in
-    let a = k .before .before .before .args in
-    took-calm (a .p) (a .e) 8 (omega arith) (fits (k .before .before .before)) (omega arith) (sym (k .calm .ensures) ∙ c .before .before .before .before .if1 .taken) (c .before .before .copy8 .ensures)
+    let a = k .before .before .before .before .args in
+    took-calm (a .p) (a .e) 16 8 (omega arith) (omega arith) (omega arith) (omega arith) (sym (k .calm .ensures) ∙ c .before .before .before .before .if2 .taken) (c .before .before .copy8 .ensures)
 
 take-marked-requires : tie.Need-take-marked-requires
 take-marked-requires c κs = search needs
@@ -43,6 +40,7 @@ pub take8-spec : {M : Type 1} → statement M
 take8-spec =
     tie.close
     (tie.spec
+    sub-if1
     calm-requires
     copy8-requires
     add-result
