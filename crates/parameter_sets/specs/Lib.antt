@@ -4,3 +4,5 @@ pub mod Split
 pub mod Read
 pub mod Prefix
 pub mod Cases
+pub mod Lists
+pub mod Code
