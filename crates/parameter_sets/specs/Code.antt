@@ -2,19 +2,25 @@
 -- the other into 32 bytes of zeros, and what crates above need of a payload.
 -- Assumes nothing.
 use mathlib.Core.Path.{_≡_, refl, sym, ap, _∙_}
-use mathlib.Core.Bool.{true}
+use mathlib.Core.Bool.{true, false, cond}
+use mathlib.Core.Option.{Option, none, some}
 use mathlib.Core.List.{List, [], _∷_, _++_, append-assoc, append-nil}
 use Prim.Native.Nat.{ℕ, _+_, _-_, _*_, _/_, _%_, _≤_, _<_}
 use native.Mathlib.Nat.{zero-add}
 use native.Mathlib.Omega.{arith}
-use lib.ListN.{length, take, getD, replicate, length-append}
-use lib.Seq.{take-append-add}
+use lib.ListN.{length, take, getD, replicate, replicate-append-replicate, length-append}
+use lib.Seq.{take-at, drop-at}
 use borrow.Author.Tests.{eq-eqb, ne-eqb}
 use Rattle.lists.specs.Fill.{splice, Writing, start-at, puts, done-at}
-use Rattle.lists.specs.Every.{Below, below-nil, below-cons, below-take}
-use Rattle.bits.specs.Bits.{lowBits, bitsOf, bitCount, BitsPut, bits-length, bits-take, low-length}
+use Rattle.lists.specs.Test.{same}
+use Rattle.lists.specs.Every.{Below, below-nil, below-cons, below-append, below-zeros}
+use Rattle.bits.specs.Bits.{lowBits, bitsOf, bitCount, BitsPut, bits-length, bits-append, count-length, low-length}
 use Rattle.bits.specs.Pack.{packed, padding, packed-length, bits-packed, bits-same}
 use Rattle.golomb.specs.Code.{digitsIn, numBits, ue, ue-long}
+use Rattle.golomb.specs.Answers.{readUe}
+use Rattle.golomb.specs.Laws.{ue-only}
+use Rattle.golomb.specs.declared.UeRead.{UeRead}
+use Rattle.golomb.specs.declared.UeRead.the-variants.{Number, NoCode}
 use Rattle.ycbcr_image.specs.declared.BitDepth.{BitDepth}
 use Rattle.ycbcr_image.specs.declared.BitDepth.the-variants.{Depth8, Depth12}
 use Rattle.ycbcr_image.specs.declared.Kind.{Kind}
@@ -25,9 +31,13 @@ use Rattle.ycbcr_image.specs.Refusals.{accepted}
 use Rattle.ycbcr_image.specs.Accepted.{fine}
 use Rattle.ycbcr_image.specs.Sizes.{Sequence, sequenceOf, divCeil, nextMultiple, picWidthInMbs, frameHeightInMbs}
 use Rattle.parameter_sets.specs.declared.FrameCropping.{FrameCropping}
+use Rattle.parameter_sets.specs.declared.SizeCodes.{SizeCodes}
 use Rattle.parameter_sets.specs.Sps.{u, profileIdc, chromaFields, cropRight, cropBottom, cropped, cropFields, vuiFields, spsBits, spsPayload}
-use Rattle.parameter_sets.specs.Lists.{zeros-drop, zeros-take, packed-below, packed-last, last-append}
+use Rattle.parameter_sets.specs.Answers.{Holds}
+use Rattle.parameter_sets.specs.Lists.{zeros-drop, bits-zeros, packed-below, packed-last, last-append}
 use Rattle.parameter_sets.specs.Split.{spsHead, spsTail, sps-split, head-length, sps-below, sps-short}
+use Rattle.parameter_sets.specs.Read.{formIn, widthPlace, number, behind, sizesEnd, cropIn, rightIn, bottomIn, guessed, readSps, sps-sound}
+use Rattle.parameter_sets.specs.Prefix.{form-known, guessed-form}
 use Rattle.parameter_sets.specs.Pps.{ppsPayload, pps-is}
 
 -- ---- the pieces
@@ -81,11 +91,17 @@ pub cover-y : (q : Sequence) → q .height ≤ 16 * frameHeightInMbs q
 unfolding frameHeightInMbs nextMultiple divCeil
 cover-y q = omega arith
 
--- no crop unit is 0
-pub units-some : (k : Kind) (d : BitDepth) → (1 ≤ cropUnitX (formOf k d)) × (1 ≤ cropUnitY (formOf k d))
+-- crop units are 1 or 2
+pub record Units (f : Form) : Type 0 where
+  pub x-low : 1 ≤ cropUnitX f
+  pub x-high : cropUnitX f ≤ 2
+  pub y-low : 1 ≤ cropUnitY f
+  pub y-high : cropUnitY f ≤ 2
+
+pub units : (k : Kind) (d : BitDepth) → Units (formOf k d)
 unfolding cropUnitX cropUnitY subWidthC subHeightC mono
-units-some Mono d = omega arith
-units-some Colour d = omega arith
+units Mono d = omega arith
+units Colour d = omega arith
 
 -- what the code's cropping says of a size
 pub record Cropping (q : Sequence) (r : FrameCropping) : Type 0 where
@@ -163,23 +179,23 @@ put-last {s} {fields} {t} {t′} {v} {place} g x =
 
 -- ---- the bytes that hold them
 
-bits-zero : bitsOf (replicate 32 0) ≡ replicate 256 0
-unfolding bitsOf lowBits
-bits-zero = refl
-
 -- bits written into 32 bytes of zeros are packed in the bytes up to them
 pub packed-in : {t : List ℕ} {p : ℕ} (bs : List ℕ) → Below 2 bs → length bs ≤ 256 → Below 256 t → BitsPut (replicate 32 0) 0 bs t p
-    → (take ((p + 7) / 8) t ≡ packed bs) × ((p + 7) / 8 ≡ length (packed bs))
+    → Holds (record { bytes = t; len = (p + 7) / 8 }) (packed bs)
 unfolding splice padding
 packed-in {t} {p} bs b h k x =
     let n : ℕ = length bs in
     let j : ℕ = (p + 7) / 8 in
+    let m : ℕ = 7 - (n + 7) % 8 in
     let e : p ≡ n = x .behind ∙ zero-add n in
-    let m : 8 * j ≡ n + (7 - (n + 7) % 8) = omega arith in
-    let all : bitsOf t ≡ bs ++ replicate (256 - n) 0 = x .bits ∙ rw (bits-zero, zero-add n) (ap (λ (l : List ℕ). bs ++ l) (zeros-drop n 256)) in
-    let bits : bitsOf (take j t) ≡ bs ++ replicate (7 - (n + 7) % 8) 0 =
-    bits-take j t ∙ rw (all, m, take-append-add bs (replicate (256 - n) 0) (7 - (n + 7) % 8)) (ap (λ (l : List ℕ). bs ++ l) (zeros-take (7 - (n + 7) % 8) (256 - n) (omega arith))) in
-    (bits-same (take j t) (packed bs) (below-take j t k) (packed-below bs b) (bits ∙ sym (bits-packed bs b)), omega (arith, packed-length bs b))
+    let l : j ≡ length (packed bs) = omega (arith, packed-length bs b) in
+    let c : m + 8 * (32 - j) ≡ 256 - n = omega arith in
+    let all : bitsOf t ≡ bs ++ replicate (256 - n) 0 = x .bits ∙ rw (bits-zeros 32, zero-add n) (ap (λ (l : List ℕ). bs ++ l) (zeros-drop n 256)) in
+    let both : bitsOf (packed bs ++ replicate (32 - j) 0) ≡ bs ++ replicate (256 - n) 0 =
+    bits-append (packed bs) (replicate (32 - j) 0) ∙ rw (bits-packed bs b, bits-zeros (32 - j), append-assoc bs (replicate m 0) (replicate (8 * (32 - j)) 0), replicate-append-replicate {A = ℕ} m (8 * (32 - j)) 0, c) refl in
+    let w : t ≡ packed bs ++ replicate (32 - j) 0 =
+    bits-same t (packed bs ++ replicate (32 - j) 0) k (below-append (packed bs) (replicate (32 - j) 0) (packed-below bs b) (below-zeros (32 - j) (omega arith))) (all ∙ sym both) in
+    record { len = l; bytes = rw w (take-at (packed bs) (replicate (32 - j) 0) j (sym l)); zeros = rw w (drop-at (packed bs) (replicate (32 - j) 0) j (sym l)) }
 
 -- ---- what crates above need of a payload
 
@@ -215,3 +231,81 @@ pps-length = rw pps-is refl
 
 pub pps-last : 0 < getD ppsPayload (length ppsPayload - 1) 0
 pps-last = rw pps-is (omega arith)
+
+-- ---- reading
+
+-- a size with a form
+abbrev pub sized : ℕ → ℕ → Form → Sequence
+sized w h f = record { width = w; height = h; form = f }
+
+-- what the code finds of the sizes' codes
+pub record SizesIn (p : List ℕ) (r : SizeCodes) : Type 0 where
+  pub across : r .across ≡ number p (widthPlace (formIn p))
+  pub down : r .down ≡ number p (behind p (widthPlace (formIn p)))
+  pub behind : r .behind ≡ sizesEnd p
+
+-- and of cropping
+pub record CroppingIn (p : List ℕ) (r : FrameCropping) : Type 0 where
+  pub present : r .present ≡ cropIn p
+  pub left : r .left ≡ 0
+  pub right : r .right ≡ rightIn p
+  pub top : r .top ≡ 0
+  pub bottom : r .bottom ≡ bottomIn p
+
+-- a code ends in the payload
+pub behind-most : (p : List ℕ) (at : ℕ) → behind p at ≤ 8 * length p
+behind-most p at = go (readUe p at) refl
+  where
+    go : (r : UeRead) → readUe p at ≡ r → behind p at ≤ 8 * length p
+    go (Number x q) e = rw e (omega (arith, ue-only p at x q e .1 .inside, count-length p))
+    go NoCode e = rw e (omega arith)
+
+pub sizes-most : (p : List ℕ) → sizesEnd p ≤ 8 * length p
+unfolding sizesEnd
+sizes-most p = behind-most p (behind p (widthPlace (formIn p)))
+
+-- what is read is what a session says
+pub read-session : (level : ℕ) (p : List ℕ) (q : Sequence) → readSps level p ≡ some q → (s : Session) × (q ≡ sequenceOf s)
+read-session level p q e =
+    let f = form-known p in
+    let k : q .form ≡ formOf (f .0) (f .1) = ap (λ (i : Sequence). i .form) (sym (sps-sound level p q e .2)) ∙ (guessed-form p ∙ f .2) in
+    (record { width = q .width; height = q .height; kind = f .0; depth = f .1 }, rw (← k) refl)
+
+-- and what a payload that is read has
+pub record Found (p : List ℕ) : Type 0 where
+  pub low : 7 ≤ length p
+  pub most : length p ≤ 32
+  pub wide : guessed p .width ≤ 16384
+  pub high : guessed p .height ≤ 16384
+
+found : (level : ℕ) (p : List ℕ) (s : Session) → readSps level p ≡ some (sequenceOf s) → Found p
+found level p s e =
+    let r = sps-sound level p (sequenceOf s) e in
+    let g = fine (s .kind) (s .depth) (s .width) (s .height) (r .0) in
+    let l = sps-length level s (r .0) in
+    let n = ap length (r .1) in
+    record {
+      low = omega arith;
+      most = omega arith;
+      wide = omega (arith, ap (λ (i : Sequence). i .width) (r .2), g .width-high);
+      high = omega (arith, ap (λ (i : Sequence). i .height) (r .2), g .height-high);
+    }
+
+pub read-none : (level : ℕ) (p : List ℕ) → (Found p → ⊥) → readSps level p ≡ none
+read-none level p h = go (readSps level p) refl
+  where
+    clash : (q : Sequence) → readSps level p ≡ some q → ⊥
+    clash q e = let r = read-session level p q e in h (found level p (r .0) (e ∙ ap some (r .1)))
+
+    go : (o : Option Sequence) → readSps level p ≡ o → readSps level p ≡ none
+    go none e = e
+    go (some q) e = absurd (clash q e)
+
+-- the tests that read one
+pub read-refused : (level : ℕ) (p : List ℕ) (q : Sequence) → q ≡ guessed p → accepted q ≡ false → readSps level p ≡ none
+unfolding readSps
+read-refused level p q e a = rw (← e, a) refl
+
+pub read-tested : (level : ℕ) (p : List ℕ) (q : Sequence) → q ≡ guessed p → accepted q ≡ true → readSps level p ≡ cond (same p (spsPayload level q)) (some q) none
+unfolding readSps
+read-tested level p q e a = rw (← e, a) refl

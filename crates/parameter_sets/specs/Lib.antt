@@ -5,4 +5,5 @@ pub mod Read
 pub mod Prefix
 pub mod Cases
 pub mod Lists
+pub mod Answers
 pub mod Code

@@ -2,33 +2,61 @@
 -- Assumes nothing.
 use mathlib.Core.Path.{_≡_, refl, sym, ap, _∙_}
 use mathlib.Core.List.{List, [], _∷_, _++_}
-use Prim.Native.Nat.{ℕ, zero, suc, _+_, _-_, _/_, _%_, _^_, _≤_, _<_}
+use Prim.Native.Nat.{ℕ, zero, suc, _+_, _-_, _*_, _/_, _%_, _^_, _≤_, _<_}
+use mathlib.Core.Bool.{Bool, true, false, _&&_}
+use lib.Dec.{eqb}
 use native.Mathlib.Nat.{sub-zero, div-eq-of-lt}
 use native.Mathlib.Omega.{arith}
-use lib.ListN.{length, take, drop, getD, replicate, length-append, List·getD-append}
+use lib.ListN.{length, drop, getD, replicate, replicate-append-replicate, length-append, drop-of-length-le, List·getD-append}
 use lib.Pow.{pow-pos}
 use lib.Seq.{getD-append-add}
-use Rattle.lists.specs.Test.{either}
+use Rattle.lists.specs.Part.{drop-step}
+use Rattle.lists.specs.Test.{same, either}
 use Rattle.lists.specs.Every.{Below, below-nil, below-cons, below-append, below-zeros, below-take, below-drop}
-use Rattle.bits.specs.Bits.{value, value-lt, bitsOf, bit-is}
+use Rattle.bits.specs.Bits.{value, value-lt, lowBits, bitsOf, bit-is}
 use Rattle.bits.specs.Pack.{packed, padding, packed-length, bits-packed}
 
--- zeros behind n zeros, and the first n of them
+-- zeros behind n zeros
 pub zeros-drop : (n k : ℕ) → drop {A = ℕ} n (replicate k 0) ≡ replicate (k - n) 0
 zeros-drop zero k = rw (sub-zero k) refl
 zeros-drop (suc n) zero = let e : 0 ≡ 0 - suc n = omega arith in ap (λ (m : ℕ). replicate {A = ℕ} m 0) e
 zeros-drop (suc n) (suc k) = let e : k - n ≡ suc k - suc n = omega arith in zeros-drop n k ∙ ap (λ (m : ℕ). replicate {A = ℕ} m 0) e
 
-pub zeros-take : (n k : ℕ) → n ≤ k → take {A = ℕ} n (replicate k 0) ≡ replicate n 0
-zeros-take zero k h = refl
-zeros-take (suc n) zero h = absurd (omega arith)
-zeros-take (suc n) (suc k) h = ap (λ (l : List ℕ). 0 ∷ l) (zeros-take n k (omega arith))
+-- the bits of zeros
+pub bits-zeros : (k : ℕ) → bitsOf (replicate k 0) ≡ replicate (8 * k) 0
+unfolding bitsOf lowBits
+bits-zeros zero = refl
+bits-zeros (suc k) =
+    let e : 8 + 8 * k ≡ 8 * suc k = omega arith in
+    ap (λ (l : List ℕ). replicate 8 0 ++ l) (bits-zeros k) ∙ replicate-append-replicate 8 (8 * k) 0 ∙ ap (λ (m : ℕ). replicate {A = ℕ} m 0) e
 
 -- the last element is that of the second list, where it has one
 pub last-append : (xs ys : List ℕ) → 1 ≤ length ys → getD (xs ++ ys) (length (xs ++ ys) - 1) 0 ≡ getD ys (length ys - 1) 0
 last-append xs ys h =
     let e : length (xs ++ ys) - 1 ≡ length xs + (length ys - 1) = omega (arith, length-append xs ys) in
     rw e (getD-append-add xs ys (length ys - 1) 0)
+
+-- lists of different lengths are not the same
+pub same-lengths : (xs ys : List ℕ) → (length xs ≡ length ys → ⊥) → same xs ys ≡ false
+unfolding same
+same-lengths [] [] h = absurd (h refl)
+same-lengths [] (y ∷ ys) h = refl
+same-lengths (x ∷ xs) [] h = refl
+same-lengths (x ∷ xs) (y ∷ ys) h = rw (same-lengths xs ys (λ e. h (ap suc e))) (neither (eqb x y))
+  where
+    neither : (b : Bool) → (b && false) ≡ false
+    neither true = refl
+    neither false = refl
+
+-- lists from a place on: the elements there, then what stands behind them
+pub same-step : (xs ys : List ℕ) (i : ℕ) → i < length xs → i < length ys
+    → same (drop i xs) (drop i ys) ≡ (eqb (getD xs i 0) (getD ys i 0) && same (drop (i + 1) xs) (drop (i + 1) ys))
+unfolding same
+same-step xs ys i h k = rw (drop-step xs i h, drop-step ys i k) refl
+
+pub same-end : (xs ys : List ℕ) (i : ℕ) → length xs ≤ i → length ys ≤ i → same (drop i xs) (drop i ys) ≡ true
+unfolding same
+same-end xs ys i h k = rw (drop-of-length-le xs {i = i} h, drop-of-length-le ys {i = i} k) refl
 
 -- eight bits are a byte
 byte : (bs : List ℕ) (k : ℕ) → length (bs ++ replicate k 0) ≡ 8 → Below 2 bs → value (bs ++ replicate k 0) < 256

@@ -1,16 +1,23 @@
 // The parameter sets (lib.rs: Sps, Pps, Vui, ProfileIdc; ITU-T H.264 7.3.2.1.1, 7.3.2.2 and E.1.1): their payloads, written and read back.
 ghost use mathlib.Core.Path.{_≡_};
 ghost use mathlib.Core.Bool.{true};
-ghost use Prim.Native.Nat.{_+_, _≤_};
-ghost use lib.ListN.{length, take};
+ghost use Prim.Native.Nat.{_+_, _-_, _*_, _≤_};
+ghost use lib.Dec.{eqb};
+ghost use lib.ListN.{length, getD};
 ghost use Rattle.lists.specs.Every.{Below};
-ghost use Rattle.bits.specs.Bits.{bitCount, BitsPut};
+ghost use Rattle.lists.specs.Test.{same};
+ghost use Rattle.bits.specs.Bits.{bitsOf, bitCount, BitsPut};
 ghost use Rattle.ycbcr_image.specs.Sizes.{sequenceOf};
 ghost use Rattle.ycbcr_image.specs.Refusals.{accepted};
 ghost use Rattle.parameter_sets.specs.Sps.{profileIdc, chromaFields, cropped, cropFields, spsPayload};
 ghost use Rattle.parameter_sets.specs.Split.{spsTail};
 ghost use Rattle.parameter_sets.specs.Pps.{ppsPayload};
-ghost use Rattle.parameter_sets.specs.Code.{headFields, sizeFields, Cropping};
+ghost use Rattle.parameter_sets.specs.Read.{formIn, widthPlace, number, behind, sizesEnd, guessed, readSps};
+ghost use Rattle.parameter_sets.specs.Answers.{Holds, spsRead};
+ghost use Rattle.parameter_sets.specs.Code.{headFields, sizeFields, Cropping, sized, SizesIn, CroppingIn};
+use golomb::UeRead;
+use ycbcr_image::BitDepth;
+use ycbcr_image::Kind;
 use ycbcr_image::Session;
 
 // profile_idc: baseline, high or high444pp.
@@ -133,7 +140,7 @@ fn put_vui(payload: &mut [u8], place: usize) -> usize
     bits::put_bits(payload, place, 16, 0x9B01)
 }
 
-// A payload: the first `len` of the bytes.
+// A payload: the first `len` of the bytes, and zeros behind them.
 pub struct Payload {
     pub bytes: [u8; 32],
     pub len: usize,
@@ -142,7 +149,7 @@ pub struct Payload {
 // The payload of the sequence parameter set of an accepted size.
 pub fn sps(s: Session, level: u8) -> Payload
     requires { ⌜ accepted (sequenceOf s) ≡ true ⌝ }
-    ensures { λ r. ⌜ (take (r .len) (r .bytes) ≡ spsPayload level (sequenceOf s)) × (r .len ≡ length (spsPayload level (sequenceOf s))) ⌝ }
+    ensures { λ r. ⌜ Holds r (spsPayload level (sequenceOf s)) ⌝ }
 {
     let mut payload = [0u8; 32];
     let chroma = put_head(&mut payload, s, level);
@@ -161,4 +168,233 @@ pub fn pps() -> [u8; 3]
     ensures { λ r. ⌜ r ≡ ppsPayload ⌝ }
 {
     [0xCE, 0x38, 0x80]
+}
+
+// ---- reading
+
+// The answer of a call that reads a sequence parameter set: what it says, or that it is of no accepted form.
+pub enum SpsRead {
+    Sps(Session),
+    NotForm,
+}
+
+// Whether two slices are equal.
+fn same_bytes(a: &[u8], b: &[u8]) -> bool
+    ensures { λ r. ⌜ r ≡ same (now (a .entry)) (now (b .entry)) ⌝ }
+{
+    if a.len() != b.len() {
+        return false;
+    }
+    let mut i = 0;
+    while i < a.len() {
+        if a[i] != b[i] {
+            return false;
+        }
+        i += 1;
+    }
+    true
+}
+
+// Whether the payload is that of the picture parameter set.
+pub fn is_pps(payload: &[u8]) -> bool
+    ensures { λ r. ⌜ r ≡ same (now (payload .entry)) ppsPayload ⌝ }
+{
+    let form = pps();
+    same_bytes(payload, &form)
+}
+
+// A code's number and the place behind it; zeros where no code stands.
+struct UeCode {
+    pub number: u32,
+    pub behind: usize,
+}
+
+fn code_at(payload: &[u8], place: usize) -> UeCode
+    ensures { λ r. ⌜ (r .number ≡ number (now (payload .entry)) place) × (r .behind ≡ behind (now (payload .entry)) place) ⌝ }
+{
+    match golomb::read_ue(payload, place) {
+        UeRead::Number(number, behind) => UeCode {
+            number: number,
+            behind: behind,
+        },
+        UeRead::NoCode => UeCode {
+            number: 0,
+            behind: 0,
+        },
+    }
+}
+
+// Whether the bit at a place is set, which none behind the end is.
+fn flag_at(payload: &[u8], place: usize) -> bool
+    ensures { λ r. ⌜ r ≡ eqb (getD (bitsOf (now (payload .entry))) place 0) 1 ⌝ }
+{
+    if payload.len() <= place / 8 {
+        return false;
+    }
+    bits::bit_at(payload, place) == 1
+}
+
+// What the profile, and the bit that chroma_format_idc begins with, say of a picture of this size.
+fn form_in(payload: &[u8], width: u32, height: u32) -> Session
+    requires { ⌜ 1 ≤ length (now payload) ⌝ }
+    ensures { λ r. ⌜ sequenceOf r ≡ sized width height (formIn (now (payload .entry))) ⌝ }
+{
+    let profile_idc = payload[0];
+    let mono = flag_at(payload, 25);
+    if profile_idc == 66 {
+        return Session {
+            width: width,
+            height: height,
+            kind: Kind::Colour,
+            depth: BitDepth::Depth8,
+        };
+    }
+    if profile_idc == 100 {
+        return Session {
+            width: width,
+            height: height,
+            kind: Kind::Mono,
+            depth: BitDepth::Depth8,
+        };
+    }
+    if mono {
+        return Session {
+            width: width,
+            height: height,
+            kind: Kind::Mono,
+            depth: BitDepth::Depth12,
+        };
+    }
+    Session {
+        width: width,
+        height: height,
+        kind: Kind::Colour,
+        depth: BitDepth::Depth12,
+    }
+}
+
+// The place of pic_width_in_mbs_minus1 in a payload of this form.
+fn width_place(s: Session) -> usize
+    ensures { λ r. ⌜ r ≡ widthPlace (sequenceOf s .form) ⌝ }
+{
+    let kind = s.kind;
+    let depth = s.depth;
+    match depth {
+        BitDepth::Depth8 => match kind {
+            Kind::Mono => 35,
+            Kind::Colour => 30,
+        },
+        BitDepth::Depth12 => match kind {
+            Kind::Mono => 43,
+            Kind::Colour => 45,
+        },
+    }
+}
+
+// pic_width_in_mbs_minus1 and pic_height_in_map_units_minus1, and the place behind them.
+struct SizeCodes {
+    pub across: u32,
+    pub down: u32,
+    pub behind: usize,
+}
+
+fn sizes_in(payload: &[u8]) -> SizeCodes
+    requires { ⌜ 1 ≤ length (now payload) ⌝ }
+    ensures { λ r. ⌜ SizesIn (now (payload .entry)) r ⌝ }
+{
+    let place = width_place(form_in(payload, 0, 0));
+    let across = code_at(payload, place);
+    let down = code_at(payload, across.behind);
+    SizeCodes {
+        across: across.number,
+        down: down.number,
+        behind: down.behind,
+    }
+}
+
+// The cropping that the payload says, its flag two flags behind the sizes.
+fn cropping_in(payload: &[u8], place: usize) -> FrameCropping
+    requires { ⌜ (length (now payload) ≤ 32) × (place ≡ sizesEnd (now payload)) ⌝ }
+    ensures { λ r. ⌜ CroppingIn (now (payload .entry)) r ⌝ }
+{
+    if !flag_at(payload, place + 2) {
+        return FrameCropping {
+            present: false,
+            left: 0,
+            right: 0,
+            top: 0,
+            bottom: 0,
+        };
+    }
+    let right = code_at(payload, place + 4);
+    let bottom = code_at(payload, right.behind + 1);
+    FrameCropping {
+        present: true,
+        left: 0,
+        right: right.number,
+        top: 0,
+        bottom: bottom.number,
+    }
+}
+
+// The samples of so many macroblocks and one that are left when so many crop units are cut off, none where too many are.
+fn visible(mbs_minus1: u32, unit: u32, crop: u32) -> u64
+    requires { ⌜ unit ≤ 2 ⌝ }
+    ensures { λ r. ⌜ r ≡ 16 * («mbs_minus1» + 1) - unit * crop ⌝ }
+{
+    let padded = 16 * (mbs_minus1 as u64 + 1);
+    let cut = unit as u64 * crop as u64;
+    if padded < cut {
+        return 0;
+    }
+    padded - cut
+}
+
+// The size that the payload's fields say, whatever they are.
+struct Size {
+    pub width: u64,
+    pub height: u64,
+}
+
+fn guess(payload: &[u8]) -> Size
+    requires { ⌜ (1 ≤ length (now payload)) × (length (now payload) ≤ 32) ⌝ }
+    ensures { λ r. ⌜ (r .width ≡ guessed (now (payload .entry)) .width) × (r .height ≡ guessed (now (payload .entry)) .height) ⌝ }
+{
+    let form = form_in(payload, 0, 0);
+    let sizes = sizes_in(payload);
+    let crop = cropping_in(payload, sizes.behind);
+    Size {
+        width: visible(sizes.across, ycbcr_image::crop_unit_x(form), crop.right),
+        height: visible(sizes.down, ycbcr_image::crop_unit_y(form), crop.bottom),
+    }
+}
+
+// Reads a sequence parameter set: it is of the form that its fields say, or of none.
+pub fn read_sps(payload: &[u8], level: u8) -> SpsRead
+    ensures { λ r. ⌜ spsRead r ≡ readSps level (now (payload .entry)) ⌝ }
+{
+    if payload.len() < 7 {
+        return SpsRead::NotForm;
+    }
+    if 32 < payload.len() {
+        return SpsRead::NotForm;
+    }
+    let size = guess(payload);
+    if 16384 < size.width {
+        return SpsRead::NotForm;
+    }
+    if 16384 < size.height {
+        return SpsRead::NotForm;
+    }
+    let s = form_in(payload, size.width as u32, size.height as u32);
+    if !ycbcr_image::size_accepted(s) {
+        return SpsRead::NotForm;
+    }
+    let form = sps(s, level);
+    let bytes = form.bytes;
+    let len = form.len;
+    if same_bytes(payload, &bytes[..len]) {
+        return SpsRead::Sps(s);
+    }
+    SpsRead::NotForm
 }
