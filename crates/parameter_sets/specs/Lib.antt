@@ -4,3 +4,6 @@ pub mod Split
 pub mod Read
 pub mod Prefix
 pub mod Cases
+pub mod Lists
+pub mod Answers
+pub mod Code

@@ -42,7 +42,8 @@ form-known p = go (eqb (getD p 0 0) 66) (eqb (getD p 0 0) 100) (eqb (getD (bitsO
     go false false true = (Mono, Depth12, refl)
     go false false false = (Colour, Depth12, refl)
 
-guessed-form : (p : List ℕ) → guessed p .form ≡ formIn p
+-- the form that is guessed
+pub guessed-form : (p : List ℕ) → guessed p .form ≡ formIn p
 unfolding guessed
 guessed-form p = refl
 

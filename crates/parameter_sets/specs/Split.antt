@@ -78,9 +78,9 @@ ue-zero : ue 0 ≡ 1 ∷ []
 unfolding ue numBits digitsIn lowBits
 ue-zero = refl
 
--- no code has more than 63 bits
-ue-short : (x : ℕ) → x ≤ 2 ^ 32 - 2 → length (ue x) ≤ 63
-ue-short x h = omega (arith, ue-length x, num-most (x + 1) 32 (omega arith) (omega arith))
+-- the code of a number with at most k digits behind it
+ue-short : (x k : ℕ) → x + 1 < 2 ^ k → length (ue x) ≤ 2 * k - 1
+ue-short x k h = omega (arith, ue-length x, num-most (x + 1) k (omega arith) h)
 
 chroma-short : (k : Kind) (d : BitDepth) → length (chromaFields (formOf k d)) ≤ 15
 unfolding chromaFields profileIdc mono ue numBits digitsIn lowBits
@@ -107,18 +107,18 @@ pub crop-no : (q : Sequence) → cropped q ≡ false → cropFields q ≡ 0 ∷ 
 unfolding cropFields lowBits
 crop-no q e = rw e refl
 
-crop-short : (q : Sequence) → Fine q → length (cropFields q) ≤ 129
+crop-short : (q : Sequence) → Fine q → length (cropFields q) ≤ 61
 crop-short q g = go (cropped q) refl
   where
-    go : (b : Bool) → cropped q ≡ b → length (cropFields q) ≤ 129
+    go : (b : Bool) → cropped q ≡ b → length (cropFields q) ≤ 61
     go true e =
         rw (crop-yes q e, length-append (ue (cropRight q)) (1 ∷ ue (cropBottom q)))
-        (omega (arith, ue-short (cropRight q) (omega (arith, right-most q g)), ue-short (cropBottom q) (omega (arith, bottom-most q g))))
+        (omega (arith, ue-short (cropRight q) 15 (omega (arith, right-most q g)), ue-short (cropBottom q) 15 (omega (arith, bottom-most q g))))
     go false e = rw (crop-no q e) (omega arith)
 
--- a sequence parameter set is short
+-- a sequence parameter set has room in 32 bytes
 pub sps-short : (level : ℕ) (k : Kind) (d : BitDepth) (w h : ℕ) → Fine (record { width = w; height = h; form = formOf k d })
-    → length (spsBits level (record { width = w; height = h; form = formOf k d })) ≤ 400
+    → length (spsBits level (record { width = w; height = h; form = formOf k d })) ≤ 256
 unfolding spsTail vuiFields lowBits
 sps-short level k d w h g =
     let q : Sequence = record { width = w; height = h; form = formOf k d } in
@@ -136,6 +136,6 @@ sps-short level k d w h g =
       head-length level (formOf k d),
       chroma-short k d,
       crop-short q g,
-      ue-short (picWidthInMbs q - 1) (omega (arith, g .across-high)),
-      ue-short (frameHeightInMbs q - 1) (omega (arith, g .down-high)),
+      ue-short (picWidthInMbs q - 1) 11 (omega (arith, g .across-high)),
+      ue-short (frameHeightInMbs q - 1) 11 (omega (arith, g .down-high)),
     ))
