@@ -5,7 +5,7 @@
 --     splice-front     what is written from the first element on
 -- Assumes nothing.
 use mathlib.Core.Path.{_≡_, refl, sym, ap, _∙_}
-use mathlib.Core.List.{List, [], _++_, append-nil}
+use mathlib.Core.List.{List, [], _++_}
 use mathlib.Core.Bool.{Bool, true, false, _&&_}
 use Prim.Native.Nat.{ℕ, zero, suc, _+_, _-_, _≤_, _<_}
 use native.Mathlib.Nat.{zero-add, add-zero, sub-zero}
@@ -14,7 +14,7 @@ use native.Mathlib.Omega.{arith}
 use lib.Dec.{eqb, eqb·suc-zero}
 use lib.Bits.{bitOr, or-zero-l, or-add-and, and-le-r}
 use lib.ListN.{length, take, drop, getD, set, drop-of-length-le, take-append-drop}
-use lib.Seq.{take-length, drop-length, drop-drop, drop-at, take-at, length-take-le}
+use lib.Seq.{take-length, drop-drop, drop-at, take-at, length-take-le}
 use borrow.Author.Tests.{ne-eqb}
 use Rattle.lists.specs.Fill.{splice, Writing, start-at, put, done-at}
 use Rattle.lists.specs.Part.{part, part-length, part-at, part-append, drop-step}
@@ -75,21 +75,6 @@ copy-end {d} {at} {v} {out} {k} g h = done-at at v (rw (drop-of-length-le v h) a
 pub copy-part : {d : List ℕ} {at : ℕ} {out : List ℕ} {k : ℕ} (s : List ℕ) (p n : ℕ) → Copied d at (part s p n) out k → p + n ≤ length s → k < n
     → Copied d at (part s p n) (set out (at + k) (getD s (p + k) 0)) (k + 1)
 copy-part {k = k} s p n g h l = rw (part-at s p n k l) at (copy-turn g (rw (part-length s p n h) l))
-
--- a buffer that is filled whole
-pub splice-whole : (d v : List ℕ) → length v ≡ length d → splice d 0 v ≡ v
-splice-whole d v e = rw (splice-front d v, e, drop-length d) (append-nil v)
-
--- a local array that is filled with a part of s, element by element
-pub load-turn : {d row : List ℕ} {k : ℕ} (s : List ℕ) (p n : ℕ) → Copied d 0 (part s p n) row k → p + n ≤ length s → k < n
-    → Copied d 0 (part s p n) (set row k (getD s (p + k) 0)) (k + 1)
-load-turn {d} {row} {k} s p n g h l =
-    rw (zero-add k) at (copy-part s p n g h l)
-
-pub load-end : {d row : List ℕ} {k : ℕ} (s : List ℕ) (p n : ℕ) → Copied d 0 (part s p n) row k → p + n ≤ length s → length d ≡ n → n ≤ k → row ≡ part s p n
-load-end {d} {row} {k} s p n g h e l =
-    let f : length (part s p n) ≡ n = part-length s p n h in
-    copy-end g (rw f l) ∙ splice-whole d (part s p n) (omega arith)
 
 -- whether f holds at each of the n numbers from p on
 unfoldable pub every : (ℕ → Bool) → ℕ → ℕ → Bool

@@ -12,6 +12,7 @@ ghost use Rattle.nal_unit.specs.Unescape.{un};
 ghost use Rattle.nal_unit.specs.Kept.{insAt, kept, insCount};
 ghost use Rattle.nal_unit.specs.Taking.{Next, Passed, Took};
 ghost use Rattle.nal_unit.specs.TakingCode.{Pair};
+use crate::rows;
 
 // Whether the byte at the place p is an inserted one.
 pub fn inserted_at(s: &[u8], p: usize) -> bool
@@ -161,71 +162,6 @@ pub fn skip(s: &[u8], p: usize, e: usize, n: usize) -> usize
     q
 }
 
-// Fills a row with the bytes of s from the place p on. Rows are copied by way of a local array of their width: two slices are not known to be apart, a local
-// array and a slice are.
-fn load(s: &[u8], p: usize, row: &mut [u8])
-    requires { ⌜ p + length (now row) ≤ length (now s) ⌝ }
-    ensures { λ _. ⌜ now (row .exit) ≡ part (now (s .entry)) p (length (now (row .entry))) ⌝ }
-{
-    let mut k = 0;
-    while k < row.len() {
-        row[k] = s[p + k];
-        k += 1;
-    }
-}
-
-// Writes a row at the place `at` of the output.
-fn store(out: &mut [u8], at: usize, row: &[u8])
-    requires { ⌜ at + length (now row) ≤ length (now out) ⌝ }
-    ensures { λ _. ⌜ now (out .exit) ≡ splice (now (out .entry)) at (now (row .entry)) ⌝ }
-{
-    let mut k = 0;
-    while k < row.len() {
-        out[at + k] = row[k];
-        k += 1;
-    }
-}
-
-// Copies 8 bytes from the place p of s to the place `at` of the output.
-pub fn copy8(s: &[u8], p: usize, out: &mut [u8], at: usize)
-    requires { ⌜ (p + 8 ≤ length (now s)) × (at + 8 ≤ length (now out)) ⌝ }
-    ensures { λ _. ⌜ now (out .exit) ≡ splice (now (out .entry)) at (part (now (s .entry)) p 8) ⌝ }
-{
-    let mut row = [0u8; 8];
-    load(s, p, &mut row);
-    store(out, at, &row);
-}
-
-// Copies 12 bytes from the place p of s to the place `at` of the output.
-pub fn copy12(s: &[u8], p: usize, out: &mut [u8], at: usize)
-    requires { ⌜ (p + 12 ≤ length (now s)) × (at + 12 ≤ length (now out)) ⌝ }
-    ensures { λ _. ⌜ now (out .exit) ≡ splice (now (out .entry)) at (part (now (s .entry)) p 12) ⌝ }
-{
-    let mut row = [0u8; 12];
-    load(s, p, &mut row);
-    store(out, at, &row);
-}
-
-// Copies 16 bytes from the place p of s to the place `at` of the output.
-pub fn copy16(s: &[u8], p: usize, out: &mut [u8], at: usize)
-    requires { ⌜ (p + 16 ≤ length (now s)) × (at + 16 ≤ length (now out)) ⌝ }
-    ensures { λ _. ⌜ now (out .exit) ≡ splice (now (out .entry)) at (part (now (s .entry)) p 16) ⌝ }
-{
-    let mut row = [0u8; 16];
-    load(s, p, &mut row);
-    store(out, at, &row);
-}
-
-// Copies 24 bytes from the place p of s to the place `at` of the output.
-pub fn copy24(s: &[u8], p: usize, out: &mut [u8], at: usize)
-    requires { ⌜ (p + 24 ≤ length (now s)) × (at + 24 ≤ length (now out)) ⌝ }
-    ensures { λ _. ⌜ now (out .exit) ≡ splice (now (out .entry)) at (part (now (s .entry)) p 24) ⌝ }
-{
-    let mut row = [0u8; 24];
-    load(s, p, &mut row);
-    store(out, at, &row);
-}
-
 // Whether the three bytes from the place p on are two zeros of payload and an inserted byte.
 fn pair(s: &[u8], p: usize) -> bool
     requires { ⌜ (2 ≤ p) × (p + 3 ≤ length (now s)) ⌝ }
@@ -298,7 +234,7 @@ pub fn take8(s: &[u8], p: usize, e: usize, out: &mut [u8], at: usize) -> usize
 {
     if e - p >= 16 {
         if calm(s, p, 16) {
-            copy8(s, p, out, at);
+            rows::copy8(s, p, out, at);
             return p + 8;
         }
     }
@@ -314,7 +250,7 @@ pub fn take12(s: &[u8], p: usize, e: usize, out: &mut [u8], at: usize) -> usize
 {
     if e - p >= 16 {
         if calm(s, p, 16) {
-            copy12(s, p, out, at);
+            rows::copy12(s, p, out, at);
             return p + 12;
         }
     }
@@ -329,7 +265,7 @@ pub fn take16(s: &[u8], p: usize, e: usize, out: &mut [u8], at: usize) -> usize
     ensures { λ r. ⌜ Took (now (s .entry)) p e 16 (now (out .entry)) at (now (out .exit)) r ⌝ }
 {
     if calm(s, p, 16) {
-        copy16(s, p, out, at);
+        rows::copy16(s, p, out, at);
         return p + 16;
     }
     take_marked(s, p, e, 8, out, at)
@@ -344,7 +280,7 @@ pub fn take24(s: &[u8], p: usize, e: usize, out: &mut [u8], at: usize) -> usize
 {
     if calm(s, p, 16) {
         if calm(s, p + 8, 16) {
-            copy24(s, p, out, at);
+            rows::copy24(s, p, out, at);
             return p + 24;
         }
     }

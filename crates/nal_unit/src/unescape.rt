@@ -3,10 +3,9 @@ ghost use mathlib.Core.Path.{_≡_};
 ghost use Prim.Native.Nat.{_+_, _-_, _<_, _≤_};
 ghost use lib.Dec.{leb};
 ghost use lib.ListN.{length};
-ghost use Rattle.lists.specs.Fill.{splice};
-ghost use Rattle.lists.specs.Part.{part};
 ghost use Rattle.nal_unit.specs.Unescape.{un};
 ghost use Rattle.nal_unit.specs.UnescapeCode.{markAt, unPart, Took, unescapeOf, unescapedOut};
+use crate::rows;
 use crate::scan;
 
 // The answer of unescaping: the length written, or a refusal that changes nothing.
@@ -103,33 +102,6 @@ fn has_room(ebsp: &[u8], room: usize) -> bool
     unescaped_len(ebsp) <= room
 }
 
-// The 64 bytes from `p` on.
-fn load64(s: &[u8], p: usize) -> [u8; 64]
-    requires { ⌜ p + 64 ≤ length (now s) ⌝ }
-    ensures { λ r. ⌜ r ≡ part (now (s .entry)) p 64 ⌝ }
-{
-    let mut row = [0u8; 64];
-    let mut k: usize = 0;
-    while k < 64 {
-        row[k] = s[p + k];
-        k += 1;
-    }
-    row
-}
-
-// Writes 64 bytes from `a` on.
-fn store64(out: &mut [u8], a: usize, row: &[u8; 64])
-    requires { ⌜ length (now row) ≡ 64 ⌝ }
-    requires { ⌜ a + 64 ≤ length (now out) ⌝ }
-    ensures { λ r. ⌜ now (out .exit) ≡ splice (now (out .entry)) a (now (row .entry)) ⌝ }
-{
-    let mut k: usize = 0;
-    while k < 64 {
-        out[a + k] = row[k];
-        k += 1;
-    }
-}
-
 // Writes the byte at `p` at the place `a`, if it is of the payload, and answers the place behind.
 fn put_byte(s: &[u8], p: usize, out: &mut [u8], a: usize) -> usize
     requires { ⌜ p < length (now s) ⌝ }
@@ -166,8 +138,7 @@ fn put64(s: &[u8], p: usize, out: &mut [u8], a: usize) -> usize
     ensures { λ r. ⌜ Took (now (s .entry)) p 64 (now (out .entry)) a (now (out .exit)) r ⌝ }
 {
     if kept64(s, p) == 64 {
-        let row = load64(s, p);
-        store64(out, a, &row);
+        rows::copy64(s, p, out, a);
         return a + 64;
     }
     put_plain(s, p, 64, out, a)

@@ -1,12 +1,7 @@
 -- `nal_unit::unescape::put64` meets its contract: where 64 bytes of payload are left, none was inserted. Assumes nothing.
-use mathlib.Core.Path.{sym, ap, _∙_}
-use mathlib.Core.List.{List}
-use Prim.Native.Nat.{ℕ}
+use mathlib.Core.Path.{sym, _∙_}
 use native.Mathlib.Omega.{arith}
-use lib.ListN.{length}
 use borrow.Author.Needs.{needs}
-use Rattle.lists.specs.Fill.{splice}
-use Rattle.lists.specs.Part.{part-length}
 use Rattle.nal_unit.specs.UnescapeCode.{took-whole}
 use Rattle.nal_unit.proofs.unescape.put64.Statement.{statement}
 use Rattle.nal_unit.proofs.unescape.put64.Tie as tie
@@ -14,15 +9,11 @@ use Rattle.nal_unit.proofs.unescape.put64.Tie as tie
 kept64-requires : tie.Need-kept64-requires
 kept64-requires c κs = search needs
 
-load64-requires : tie.Need-load64-requires
-load64-requires c κs = search needs
-
-store64-requires : tie.Need-store64-requires
-store64-requires c κs =
-    let l = c .before .before in
-    let k = l .before .before in
+copy64-requires : tie.Need-copy64-requires
+copy64-requires c κs =
+    let k = c .before .before in
     let b = k .before .before .before in
-    (ap length (l .load64 .ensures) ∙ part-length (b .args .s .now) (b .args .p) 64 (b .pre .1 .0), omega (arith, b .pre .1 .1, k .kept64 .ensures, l .before .if1 .taken))
+    (b .pre .1 .0, omega (arith, b .pre .1 .1, k .kept64 .ensures, c .before .if1 .taken))
 
 add-result : tie.Need-add-result
 add-result c = search needs
@@ -33,12 +24,10 @@ same-length c = search needs
 returns : tie.Need-returns
 returns c =
     let t = c .before .before in
-    let l = t .before .before .before in
-    let k = l .before .before in
+    let k = t .before .before .before in
     let b = k .before .before .before in
     let a = b .args in
-    took-whole (a .s .now) (a .p) 64 (a .out .now) (a .a) (t .store64 .last .0) (b .pre .1 .0) (sym (k .kept64 .ensures) ∙ l .before .if1 .taken)
-    (t .store64 .ensures ∙ ap (λ (row : List ℕ). splice (a .out .now) (a .a) row) (l .load64 .ensures))
+    took-whole (a .s .now) (a .p) 64 (a .out .now) (a .a) _ (b .pre .1 .0) (sym (k .kept64 .ensures) ∙ t .before .before .if1 .taken) (t .copy64 .ensures)
 
 put-plain-requires : tie.Need-put-plain-requires
 put-plain-requires c κs = search needs
@@ -54,8 +43,7 @@ put64-spec =
     tie.close
     (tie.spec
     kept64-requires
-    load64-requires
-    store64-requires
+    copy64-requires
     add-result
     same-length
     returns

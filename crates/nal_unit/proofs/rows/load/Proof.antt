@@ -1,4 +1,4 @@
--- `nal_unit::taking::load` meets its contract: after k turns, k bytes of the row are filled. Assumes nothing.
+-- `nal_unit::rows::load` meets its contract: after k turns, k bytes of the row are filled. Assumes nothing.
 use mathlib.Core.Path.{_≡_}
 use Prim.Native.Nat.{_-_, _≤_}
 use native.Mathlib.Nat.{zero-add}
@@ -6,8 +6,8 @@ use native.Mathlib.Omega.{arith}
 use lib.ListN.{length}
 use borrow.Author.Needs.{needs}
 use Rattle.nal_unit.specs.Copying.{Copied, copied-none, copied-next, copied-length, copied-row}
-use Rattle.nal_unit.proofs.taking.load.Statement.{statement}
-use Rattle.nal_unit.proofs.taking.load.Tie as tie
+use Rattle.nal_unit.proofs.rows.load.Statement.{statement}
+use Rattle.nal_unit.proofs.rows.load.Tie as tie
 
 abbrev Inv-loop : tie.InvT-loop
 Inv-loop s p row₀ k₀ row k = (k ≤ length row₀) × Copied row₀ 0 s p k row

@@ -1,4 +1,4 @@
--- `nal_unit::taking::store` meets its contract: after k turns, k bytes of the row are written. Assumes nothing.
+-- `nal_unit::rows::store` meets its contract: after k turns, k bytes of the row are written. Assumes nothing.
 use mathlib.Core.Path.{_≡_}
 use Prim.Native.Nat.{_-_, _≤_}
 use native.Mathlib.Nat.{zero-add}
@@ -6,8 +6,8 @@ use native.Mathlib.Omega.{arith}
 use lib.ListN.{length}
 use borrow.Author.Needs.{needs}
 use Rattle.nal_unit.specs.Copying.{Copied, copied-none, copied-next, copied-length, copied-out}
-use Rattle.nal_unit.proofs.taking.store.Statement.{statement}
-use Rattle.nal_unit.proofs.taking.store.Tie as tie
+use Rattle.nal_unit.proofs.rows.store.Statement.{statement}
+use Rattle.nal_unit.proofs.rows.store.Tie as tie
 
 abbrev Inv-loop : tie.InvT-loop
 Inv-loop out₀ at row k₀ out k = (k ≤ length row) × Copied out₀ at row 0 k out
