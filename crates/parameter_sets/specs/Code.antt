@@ -1,8 +1,13 @@
--- What the code needs of the definitions: the sequence parameter set in the pieces that a function each writes, the laws of writing pieces one behind
--- the other into 32 bytes of zeros, and what crates above need of a payload.
+-- What the code needs of the definitions, and what crates above need of a payload.
+--     headFields, sizeFields, sps-pieces   the sequence parameter set in the pieces that are written by a function each
+--     Putting                              pieces being written one behind the other into 32 bytes; put-room, put-next, put-last
+--     packed-in                            bits written into 32 bytes of zeros are packed there
+--     sps-bytes, sps-length, sps-last      a payload is bytes, 7 to 32 of them, the last of them not 0; the same of the picture parameter set
+--     Found, read-none ..                  reading by tests
 -- Assumes nothing.
 use mathlib.Core.Path.{_≡_, refl, sym, ap, _∙_}
-use mathlib.Core.Bool.{true, false, cond}
+use mathlib.Core.Bool.{Bool, true, false, cond}
+use lib.Dec.{eqb}
 use mathlib.Core.Option.{Option, none, some}
 use mathlib.Core.List.{List, [], _∷_, _++_, append-assoc, append-nil}
 use Prim.Native.Nat.{ℕ, _+_, _-_, _*_, _/_, _%_, _≤_, _<_}
@@ -23,12 +28,10 @@ use Rattle.golomb.specs.declared.UeRead.{UeRead}
 use Rattle.golomb.specs.declared.UeRead.the-variants.{Number, NoCode}
 use Rattle.ycbcr_image.specs.declared.BitDepth.{BitDepth}
 use Rattle.ycbcr_image.specs.declared.BitDepth.the-variants.{Depth8, Depth12}
-use Rattle.ycbcr_image.specs.declared.Kind.{Kind}
-use Rattle.ycbcr_image.specs.declared.Kind.the-variants.{Mono, Colour}
 use Rattle.ycbcr_image.specs.Form.{Form, formOf, depthOf, mono, subWidthC, subHeightC, cropUnitX, cropUnitY}
 use Rattle.ycbcr_image.specs.declared.Session.{Session}
 use Rattle.ycbcr_image.specs.Refusals.{accepted}
-use Rattle.ycbcr_image.specs.Accepted.{fine}
+use Rattle.ycbcr_image.specs.Accepted.{Fine, fine}
 use Rattle.ycbcr_image.specs.Sizes.{Sequence, sequenceOf, divCeil, nextMultiple, picWidthInMbs, frameHeightInMbs}
 use Rattle.parameter_sets.specs.declared.FrameCropping.{FrameCropping}
 use Rattle.parameter_sets.specs.declared.SizeCodes.{SizeCodes}
@@ -53,15 +56,26 @@ headFields level f =
 -- the fields between them and cropping
 unfoldable pub sizeFields : Sequence → List ℕ
 sizeFields q =
-    u 5 30  -- four codes of 0, log2_max_frame_num_minus4 to max_num_ref_frames, and gaps_in_frame_num_value_allowed_flag
+    ue 0  -- log2_max_frame_num_minus4
+    ++ (ue 0  -- pic_order_cnt_type
+    ++ (ue 0  -- log2_max_pic_order_cnt_lsb_minus4
+    ++ (ue 0  -- max_num_ref_frames
+    ++ (u 1 0  -- gaps_in_frame_num_value_allowed_flag
     ++ (ue (picWidthInMbs q - 1)  -- pic_width_in_mbs_minus1
     ++ (ue (frameHeightInMbs q - 1)  -- pic_height_in_map_units_minus1
-    ++ u 2 2))  -- frame_mbs_only_flag, direct_8x8_inference_flag
+    ++ (u 1 1  -- frame_mbs_only_flag
+    ++ u 1 0)))))))  -- direct_8x8_inference_flag
 
+-- the whole is head, chroma fields, sizes, cropping and tail
 pub sps-pieces : (level : ℕ) (q : Sequence)
     → spsBits level q ≡ headFields level (q .form) ++ (chromaFields (q .form) ++ (sizeFields q ++ (cropFields q ++ spsTail)))
 unfolding spsBits headFields sizeFields spsTail ue numBits digitsIn lowBits
 sps-pieces level q = simp append-assoc
+
+-- the fixed fields around the sizes are five bits and two
+pub size-is : (q : Sequence) → sizeFields q ≡ u 5 30 ++ (ue (picWidthInMbs q - 1) ++ (ue (frameHeightInMbs q - 1) ++ u 2 2))
+unfolding sizeFields ue numBits digitsIn lowBits
+size-is q = refl
 
 -- the last piece: vui_parameters_present_flag, the VUI and the stop bit
 pub tail-is : spsTail ≡ u 16 0x9B01
@@ -92,16 +106,23 @@ unfolding frameHeightInMbs nextMultiple divCeil
 cover-y q = omega arith
 
 -- crop units are 1 or 2
-pub record Units (f : Form) : Type 0 where
-  pub x-low : 1 ≤ cropUnitX f
-  pub x-high : cropUnitX f ≤ 2
-  pub y-low : 1 ≤ cropUnitY f
-  pub y-high : cropUnitY f ≤ 2
+pub unit-x : {n : ℕ} (f : Form) → n ≡ cropUnitX f → (1 ≤ n) × (n ≤ 2)
+unfolding cropUnitX subWidthC
+unit-x f e = rw e (go (mono f) (eqb (f .chroma) 1))
+  where
+    go : (b c : Bool) → (1 ≤ cond b 1 (cond c 2 1)) × (cond b 1 (cond c 2 1) ≤ 2)
+    go true c = omega arith
+    go false true = omega arith
+    go false false = omega arith
 
-pub units : (k : Kind) (d : BitDepth) → Units (formOf k d)
-unfolding cropUnitX cropUnitY subWidthC subHeightC mono
-units Mono d = omega arith
-units Colour d = omega arith
+pub unit-y : {n : ℕ} (f : Form) → n ≡ cropUnitY f → (1 ≤ n) × (n ≤ 2)
+unfolding cropUnitY subHeightC
+unit-y f e = rw e (go (mono f) (eqb (f .chroma) 1))
+  where
+    go : (b c : Bool) → (1 ≤ cond b 1 (cond c 2 1 * 1)) × (cond b 1 (cond c 2 1 * 1) ≤ 2)
+    go true c = omega arith
+    go false true = omega arith
+    go false false = omega arith
 
 -- what the code's cropping says of a size
 pub record Cropping (q : Sequence) (r : FrameCropping) : Type 0 where
@@ -110,32 +131,6 @@ pub record Cropping (q : Sequence) (r : FrameCropping) : Type 0 where
   pub right : r .right ≡ cropRight q
   pub top : r .top ≡ 0
   pub bottom : r .bottom ≡ cropBottom q
-
--- it ends in the stop bit
-tail-last : getD spsTail (length spsTail - 1) 0 ≡ 1
-unfolding spsTail vuiFields lowBits
-tail-last = refl
-
--- there are 50 bits or more
-sps-long : (level : ℕ) (q : Sequence) → 50 ≤ length (spsBits level q)
-sps-long level q =
-    let h : List ℕ = spsHead level (q .form) in
-    let a : List ℕ = ue (picWidthInMbs q - 1) in
-    let b : List ℕ = ue (frameHeightInMbs q - 1) in
-    let c : List ℕ = 1 ∷ 0 ∷ (cropFields q ++ spsTail) in
-    omega (
-      arith,
-      ap length (sps-split level q),
-      length-append h (a ++ (b ++ c)),
-      length-append a (b ++ c),
-      length-append b c,
-      length-append (cropFields q) spsTail,
-      head-length level (q .form),
-      ue-long (picWidthInMbs q - 1),
-      ue-long (frameHeightInMbs q - 1),
-      ap length tail-is,
-      low-length 16 0x9B01,
-    )
 
 -- ---- pieces written one behind the other
 
@@ -199,7 +194,33 @@ packed-in {t} {p} bs b h k x =
 
 -- ---- what crates above need of a payload
 
--- it is bytes
+-- the bits end in the stop bit
+tail-last : getD spsTail (length spsTail - 1) 0 ≡ 1
+unfolding spsTail vuiFields lowBits
+tail-last = refl
+
+-- and there are 50 or more
+sps-long : (level : ℕ) (q : Sequence) → 50 ≤ length (spsBits level q)
+sps-long level q =
+    let h : List ℕ = spsHead level (q .form) in
+    let a : List ℕ = ue (picWidthInMbs q - 1) in
+    let b : List ℕ = ue (frameHeightInMbs q - 1) in
+    let c : List ℕ = 1 ∷ 0 ∷ (cropFields q ++ spsTail) in
+    omega (
+      arith,
+      ap length (sps-split level q),
+      length-append h (a ++ (b ++ c)),
+      length-append a (b ++ c),
+      length-append b c,
+      length-append (cropFields q) spsTail,
+      head-length level (q .form),
+      ue-long (picWidthInMbs q - 1),
+      ue-long (frameHeightInMbs q - 1),
+      ap length tail-is,
+      low-length 16 0x9B01,
+    )
+
+-- the payload is bytes
 pub sps-bytes : (level : ℕ) (q : Sequence) → Below 256 (spsPayload level q)
 unfolding spsPayload
 sps-bytes level q = packed-below (spsBits level q) (sps-below level q)

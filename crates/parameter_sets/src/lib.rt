@@ -1,4 +1,6 @@
 // The parameter sets (lib.rs: Sps, Pps, Vui, ProfileIdc; ITU-T H.264 7.3.2.1.1, 7.3.2.2 and E.1.1): their payloads, written and read back.
+// A payload is written into 32 bytes of zeros, a few fields a function. What a put answers is the place behind it, and is named after the field
+// that stands there. The Option of the Rust's cropping becomes a flag beside four numbers.
 ghost use mathlib.Core.Path.{_≡_};
 ghost use mathlib.Core.Bool.{true};
 ghost use Prim.Native.Nat.{_+_, _-_, _*_, _≤_};
@@ -80,7 +82,7 @@ fn put_sizes(payload: &mut [u8; 32], place: usize, s: Session) -> usize
     bits::put_bits(payload, flags, 2, 2)
 }
 
-// The offsets of the cropping rectangle, present where a padded size differs.
+// The offsets of the cropping rectangle, in crop units, and whether they are present.
 struct FrameCropping {
     pub present: bool,
     pub left: u32,
@@ -89,6 +91,7 @@ struct FrameCropping {
     pub bottom: u32,
 }
 
+// Whether a padded size differs.
 fn frame_cropping_flag(s: Session) -> bool
     requires { ⌜ accepted (sequenceOf s) ≡ true ⌝ }
     ensures { λ r. ⌜ r ≡ cropped (sequenceOf s) ⌝ }
@@ -99,6 +102,7 @@ fn frame_cropping_flag(s: Session) -> bool
     16 * ycbcr_image::mbs_height(s) != s.height as usize
 }
 
+// What is cropped of an accepted size.
 fn frame_cropping(s: Session) -> FrameCropping
     requires { ⌜ accepted (sequenceOf s) ≡ true ⌝ }
     ensures { λ r. ⌜ Cropping (sequenceOf s) r ⌝ }
@@ -131,7 +135,8 @@ fn put_cropping(payload: &mut [u8; 32], place: usize, s: Session) -> usize
     golomb::put_ue(payload, bottom, crop.bottom)
 }
 
-// vui_parameters_present_flag, the VUI and the stop bit: video_signal_type_present_flag, video_format 5 and video_full_range_flag are there, all else is absent.
+// vui_parameters_present_flag, the VUI and rbsp_stop_one_bit. Of the VUI video_signal_type_present_flag and video_full_range_flag are set and
+// video_format is 5; every other flag is 0.
 fn put_vui(payload: &mut [u8], place: usize) -> usize
     requires { ⌜ place + length spsTail ≤ bitCount (now payload) ⌝ }
     ensures bits { λ r. ⌜ BitsPut (now (payload .entry)) place spsTail (now (payload .exit)) r ⌝ }
@@ -186,7 +191,7 @@ fn same_bytes(a: &[u8], b: &[u8]) -> bool
         return false;
     }
     let mut i = 0;
-    while i < a.len() {
+    while i < b.len() {
         if a[i] != b[i] {
             return false;
         }
@@ -203,12 +208,13 @@ pub fn is_pps(payload: &[u8]) -> bool
     same_bytes(payload, &form)
 }
 
-// A code's number and the place behind it; zeros where no code stands.
+// An unsigned code's number and the place behind it.
 struct UeCode {
     pub number: u32,
     pub behind: usize,
 }
 
+// The code at a place; zeros where no code stands.
 fn code_at(payload: &[u8], place: usize) -> UeCode
     ensures { λ r. ⌜ (r .number ≡ number (now (payload .entry)) place) × (r .behind ≡ behind (now (payload .entry)) place) ⌝ }
 {
@@ -273,7 +279,7 @@ fn form_in(payload: &[u8], width: u32, height: u32) -> Session
     }
 }
 
-// The place of pic_width_in_mbs_minus1 in a payload of this form.
+// The place of pic_width_in_mbs_minus1 in a payload of this form: behind 30 bits, and the 5, 0, 13 or 15 of the chroma fields.
 fn width_place(s: Session) -> usize
     ensures { λ r. ⌜ r ≡ widthPlace (sequenceOf s .form) ⌝ }
 {
@@ -291,13 +297,14 @@ fn width_place(s: Session) -> usize
     }
 }
 
-// pic_width_in_mbs_minus1 and pic_height_in_map_units_minus1, and the place behind them.
+// pic_width_in_mbs_minus1, pic_height_in_map_units_minus1 and the place behind them.
 struct SizeCodes {
     pub across: u32,
     pub down: u32,
     pub behind: usize,
 }
 
+// The sizes' codes in a payload.
 fn sizes_in(payload: &[u8]) -> SizeCodes
     requires { ⌜ 1 ≤ length (now payload) ⌝ }
     ensures { λ r. ⌜ SizesIn (now (payload .entry)) r ⌝ }
@@ -337,7 +344,7 @@ fn cropping_in(payload: &[u8], place: usize) -> FrameCropping
     }
 }
 
-// The samples of so many macroblocks and one that are left when so many crop units are cut off, none where too many are.
+// The samples of a row or column of macroblocks that are left when `crop` units are cut off; none where that is more than there are.
 fn visible(mbs_minus1: u32, unit: u32, crop: u32) -> u64
     requires { ⌜ unit ≤ 2 ⌝ }
     ensures { λ r. ⌜ r ≡ 16 * («mbs_minus1» + 1) - unit * crop ⌝ }
@@ -350,12 +357,13 @@ fn visible(mbs_minus1: u32, unit: u32, crop: u32) -> u64
     padded - cut
 }
 
-// The size that the payload's fields say, whatever they are.
+// A size that may be none that a picture has.
 struct Size {
     pub width: u64,
     pub height: u64,
 }
 
+// The size that the payload's fields say, whatever they are.
 fn guess(payload: &[u8]) -> Size
     requires { ⌜ (1 ≤ length (now payload)) × (length (now payload) ≤ 32) ⌝ }
     ensures { λ r. ⌜ (r .width ≡ guessed (now (payload .entry)) .width) × (r .height ≡ guessed (now (payload .entry)) .height) ⌝ }
@@ -369,7 +377,7 @@ fn guess(payload: &[u8]) -> Size
     }
 }
 
-// Reads a sequence parameter set: it is of the form that its fields say, or of none.
+// Reads a sequence parameter set: the payload is of the form that its fields say, or of none.
 pub fn read_sps(payload: &[u8], level: u8) -> SpsRead
     ensures { λ r. ⌜ spsRead r ≡ readSps level (now (payload .entry)) ⌝ }
 {

@@ -6,7 +6,7 @@ use borrow.Author.Needs.{needs}
 use Rattle.ycbcr_image.specs.Sizes.{sequenceOf}
 use Rattle.ycbcr_image.specs.Accepted.{Fine, fine}
 use Rattle.parameter_sets.specs.Sps.{cropRight, cropBottom}
-use Rattle.parameter_sets.specs.Code.{cover-x, cover-y, units}
+use Rattle.parameter_sets.specs.Code.{cover-x, cover-y, unit-x, unit-y}
 use Rattle.parameter_sets.proofs.frame_cropping.Statement.{statement}
 use Rattle.parameter_sets.proofs.frame_cropping.Tie as tie
 
@@ -45,17 +45,13 @@ crop-unit-x-requires : tie.Need-crop-unit-x-requires
 crop-unit-x-requires c κs = search needs
 
 div-t6 : tie.Need-div-t6
-div-t6 c =
-    let s = c .before .before .before .before .before .before .args .s in
-    omega (arith, units (s .kind) (s .depth) .x-low, c .crop-unit-x .ensures)
+div-t6 c = omega (arith, unit-x _ (c .crop-unit-x .ensures))
 
 crop-unit-y-requires : tie.Need-crop-unit-y-requires
 crop-unit-y-requires c κs = search needs
 
 div-t9 : tie.Need-div-t9
-div-t9 c =
-    let s = c .before .before .before .before .before .before .before .args .s in
-    omega (arith, units (s .kind) (s .depth) .y-low, c .crop-unit-y .ensures)
+div-t9 c = omega (arith, unit-y _ (c .crop-unit-y .ensures))
 
 returns : tie.Need-returns
 unfolding cropRight cropBottom

@@ -1,12 +1,11 @@
 -- `parameter_sets::guess` meets its contract. Assumes nothing.
 use mathlib.Core.Path.{_≡_, refl, ap, _∙_}
 use Prim.Native.Nat.{ℕ, _+_, _-_, _*_}
-use native.Mathlib.Omega.{arith}
 use borrow.Author.Needs.{needs}
 use Rattle.ycbcr_image.specs.Form.{cropUnitX, cropUnitY}
 use Rattle.ycbcr_image.specs.Sizes.{Sequence}
 use Rattle.parameter_sets.specs.Read.{guessed}
-use Rattle.parameter_sets.specs.Code.{units}
+use Rattle.parameter_sets.specs.Code.{unit-x, unit-y}
 use Rattle.parameter_sets.proofs.guess.Statement.{statement}
 use Rattle.parameter_sets.proofs.guess.Tie as tie
 
@@ -23,17 +22,13 @@ crop-unit-x-requires : tie.Need-crop-unit-x-requires
 crop-unit-x-requires c κs = search needs
 
 visible-requires : tie.Need-visible-requires
-visible-requires c κs =
-    let f = c .before .before .before .form-in .result in
-    omega (arith, c .crop-unit-x .ensures, units (f .kind) (f .depth) .x-high)
+visible-requires c κs = unit-x _ (c .crop-unit-x .ensures) .1
 
 crop-unit-y-requires : tie.Need-crop-unit-y-requires
 crop-unit-y-requires c κs = search needs
 
 visible-requires-2 : tie.Need-visible-requires-2
-visible-requires-2 c κs =
-    let f = c .before .before .before .before .before .form-in .result in
-    omega (arith, c .crop-unit-y .ensures, units (f .kind) (f .depth) .y-high)
+visible-requires-2 c κs = unit-y _ (c .crop-unit-y .ensures) .1
 
 -- a size is known by its parts
 part : {m m′ v v′ n n′ : ℕ} → m ≡ m′ → v ≡ v′ → n ≡ n′ → 16 * (m + 1) - v * n ≡ 16 * (m′ + 1) - v′ * n′

@@ -1,5 +1,5 @@
 -- `parameter_sets::put_sizes` meets its contract, field by field. Assumes nothing.
-use mathlib.Core.Path.{_≡_, refl, ap}
+use mathlib.Core.Path.{_≡_, ap}
 use mathlib.Core.List.{List, _++_}
 use Prim.Native.Nat.{ℕ, _+_, _-_}
 use native.Mathlib.Omega.{arith}
@@ -9,7 +9,7 @@ use Rattle.golomb.specs.Code.{ue}
 use Rattle.ycbcr_image.specs.Sizes.{Sequence, sequenceOf, picWidthInMbs, frameHeightInMbs}
 use Rattle.ycbcr_image.specs.Accepted.{Fine, fine}
 use Rattle.parameter_sets.specs.Sps.{u}
-use Rattle.parameter_sets.specs.Code.{sizeFields, Putting, putting, put-room, put-fits, put-as, put-next, put-last}
+use Rattle.parameter_sets.specs.Code.{sizeFields, size-is, Putting, putting, put-room, put-fits, put-as, put-next, put-last}
 use Rattle.parameter_sets.proofs.put_sizes.Statement.{statement}
 use Rattle.parameter_sets.proofs.put_sizes.Tie as tie
 
@@ -53,8 +53,7 @@ high : (k : tie.After-mbs-height) → ue (k .mbs-height .result - 1) ≡ ue (fra
 high k = ap (λ (n : ℕ). ue (n - 1)) (k .mbs-height .ensures)
 
 all : (c : tie.After-put-bits-arg) → Fields (S (c .before)) (S (c .before) .args .payload .now) (S (c .before) .args .place) (u 5 30 ++ (ue (picWidthInMbs (Q (S (c .before))) - 1) ++ (ue (frameHeightInMbs (Q (S (c .before))) - 1) ++ u 2 2)))
-unfolding sizeFields
-all c = putting refl (c .put-bits-arg .given .0 .1) (S (c .before) .pre .1)
+all c = putting (size-is (Q (S (c .before)))) (c .put-bits-arg .given .0 .1) (S (c .before) .pre .1)
 
 put-bits-requires : tie.Need-put-bits-requires
 unfolding lowBits

@@ -36,10 +36,10 @@ returns-4 : tie.Need-returns-4
 returns-4 c = sym (read-none _ _ (λ f. omega (arith, f .high, c .if4 .taken, c .before .before .before .before .guess .ensures .1)))
 
 cast-form-in : tie.Need-cast-form-in
-cast-form-in c = search needs
+cast-form-in c = omega (arith, c .before .before .before .if3 .left)
 
 cast-form-in-2 : tie.Need-cast-form-in-2
-cast-form-in-2 c = search needs
+cast-form-in-2 c = omega (arith, c .before .before .if4 .left)
 
 form-in-requires : tie.Need-form-in-requires
 form-in-requires c κs = search needs

@@ -1,6 +1,7 @@
 -- `parameter_sets::same_bytes` meets its contract: what stands from i on is the same exactly if the whole is. Assumes nothing.
 use mathlib.Core.Path.{_≡_, refl, sym, _∙_}
 use Prim.Native.Nat.{_-_, _≤_}
+use native.Mathlib.Omega.{arith}
 use lib.ListN.{length, drop}
 use borrow.Author.Needs.{needs}
 use borrow.Author.Tests.{eq-eqb, ne-eqb}
@@ -10,13 +11,13 @@ use Rattle.parameter_sets.proofs.same_bytes.Statement.{statement}
 use Rattle.parameter_sets.proofs.same_bytes.Tie as tie
 
 abbrev Inv-loop : tie.InvT-loop
-Inv-loop a b i₀ i = (i ≤ length a) × (same (drop i a) (drop i b) ≡ same a b)
+Inv-loop a b i₀ i = (i ≤ length b) × (same (drop i a) (drop i b) ≡ same a b)
 
 abbrev μ-loop : tie.MeasureT-loop
-μ-loop a b i₀ i = length a - i
+μ-loop a b i₀ i = length b - i
 
 returns : tie.Need-returns Inv-loop μ-loop
-returns c = sym (same-lengths (c .before .args .a .now) (c .before .args .b .now) (c .if1 .taken))
+returns c = sym (same-lengths (c .before .args .a .now) (c .before .args .b .now) (λ e. omega (arith, c .if1 .taken)))
 
 loop-holds : tie.Need-loop-holds Inv-loop μ-loop
 loop-holds c = (search needs, refl)
@@ -55,7 +56,7 @@ returns-3 : tie.Need-returns-3 Inv-loop μ-loop
 returns-3 c =
     let l = c .before .loop in
     let s = c .before .before .before in
-    sym (sym (l .inv .1) ∙ same-end (s .args .a .now) (s .args .b .now) (l .i) (search needs) (search needs))
+    sym (sym (l .inv .1) ∙ same-end (s .args .a .now) (s .args .b .now) (l .i) (omega (arith, c .before .before .if1 .left, c .loop-test .left)) (omega (arith, c .loop-test .left)))
 
 pub same-bytes-spec : {M : Type 1} → statement M
 same-bytes-spec =

@@ -7,9 +7,9 @@ use lib.ListN.{length, replicate, length-append}
 use borrow.Author.Needs.{needs}
 use Rattle.bits.specs.Bits.{BitsPut}
 use Rattle.ycbcr_image.specs.Sizes.{Sequence, sequenceOf}
-use Rattle.ycbcr_image.specs.Accepted.{fine}
 use Rattle.parameter_sets.specs.Sps.{chromaFields, cropFields, spsBits, spsPayload}
 use Rattle.parameter_sets.specs.Split.{spsTail, sps-below, sps-short}
+use Rattle.ycbcr_image.specs.Accepted.{fine}
 use Rattle.parameter_sets.specs.Code.{headFields, sizeFields, sps-pieces, Putting, putting, put-most, put-bytes, put-room, put-next, put-last, packed-in}
 use Rattle.parameter_sets.proofs.sps.Statement.{statement}
 use Rattle.parameter_sets.proofs.sps.Tie as tie
