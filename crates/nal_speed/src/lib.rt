@@ -18,6 +18,7 @@ fn escaped(a: Escaped) -> usize
     }
 }
 
+// The same of unescaping.
 fn unescaped(a: Unescaped) -> usize
     ensures { λ r. ⌜ r ≡ unescapedLength a ⌝ }
 {
@@ -28,6 +29,7 @@ fn unescaped(a: Unescaped) -> usize
     }
 }
 
+// Escapes a payload, and answers the length.
 #[no_mangle]
 pub extern "C" fn nal_speed_escape(payload: &[u8], out: &mut [u8]) -> usize
     ensures answer { λ r. ⌜ r ≡ lengthOf (escapedOf (now (payload .entry)) (now (out .entry))) ⌝ }
@@ -36,6 +38,7 @@ pub extern "C" fn nal_speed_escape(payload: &[u8], out: &mut [u8]) -> usize
     escaped(nal_unit::rbsp_to_ebsp(payload, out))
 }
 
+// Unescapes a payload, and answers the length.
 #[no_mangle]
 pub extern "C" fn nal_speed_unescape(ebsp: &[u8], out: &mut [u8]) -> usize
     ensures answer { λ r. ⌜ r ≡ unescapedLength (unescapeOf (now (ebsp .entry)) (now (out .entry))) ⌝ }
@@ -44,6 +47,7 @@ pub extern "C" fn nal_speed_unescape(ebsp: &[u8], out: &mut [u8]) -> usize
     unescaped(nal_unit::unescape::unescape(ebsp, out))
 }
 
+// The place of the next start code, or the end.
 #[no_mangle]
 pub extern "C" fn nal_speed_next_code(s: &[u8], from: usize) -> usize
     ensures { λ r. ⌜ r ≡ from + next (drop from (now (s .entry))) ⌝ }
