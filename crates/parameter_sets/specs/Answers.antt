@@ -8,13 +8,8 @@ use mathlib.Core.Option.{Option, none, some}
 use Prim.Native.Nat.{ℕ, _-_, _≤_}
 use native.Mathlib.Omega.{arith}
 use lib.ListN.{length, take, drop, replicate, length-append, take-append-drop}
-use Rattle.ycbcr_image.specs.declared.BitDepth.{BitDepth}
-use Rattle.ycbcr_image.specs.declared.BitDepth.the-variants.{Depth8, Depth12}
-use Rattle.ycbcr_image.specs.declared.Kind.{Kind}
-use Rattle.ycbcr_image.specs.declared.Kind.the-variants.{Mono, Colour}
 use Rattle.ycbcr_image.specs.declared.Session.{Session}
-use Rattle.ycbcr_image.specs.Form.{chromaOf, depthOf}
-use Rattle.ycbcr_image.specs.Sizes.{Sequence, sequenceOf}
+use Rattle.ycbcr_image.specs.Sizes.{Sequence, sequenceOf, session-one}
 use Rattle.parameter_sets.specs.declared.Payload.{Payload}
 use Rattle.parameter_sets.specs.declared.SpsRead.{SpsRead}
 use Rattle.parameter_sets.specs.declared.SpsRead.the-variants.{Sps, NotForm}
@@ -46,33 +41,9 @@ abbrev pub spsRead : SpsRead → Option Sequence
 spsRead (Sps s) = some (sequenceOf s)
 spsRead NotForm = none
 
--- a kind is known by its number, and so is a depth
-kind-same : (j k : Kind) → chromaOf j ≡ chromaOf k → j ≡ k
-kind-same Mono Mono e = refl
-kind-same Mono Colour e = absurd (omega arith)
-kind-same Colour Mono e = absurd (omega arith)
-kind-same Colour Colour e = refl
-
-depth-same : (c d : BitDepth) → depthOf c ≡ depthOf d → c ≡ d
-depth-same Depth8 Depth8 e = refl
-depth-same Depth8 Depth12 e = absurd (omega arith)
-depth-same Depth12 Depth8 e = absurd (omega arith)
-depth-same Depth12 Depth12 e = refl
-
--- a session is known by what it says
-pub session-same : (s t : Session) → sequenceOf s ≡ sequenceOf t → s ≡ t
-session-same s t e =
-    let w : s .width ≡ t .width = ap (λ (q : Sequence). q .width) e in
-    let h : s .height ≡ t .height = ap (λ (q : Sequence). q .height) e in
-    let k : s .kind ≡ t .kind = kind-same (s .kind) (t .kind) (ap (λ (q : Sequence). q .form .chroma) e) in
-    let d : s .depth ≡ t .depth = depth-same (s .depth) (t .depth) (ap (λ (q : Sequence). q .form .depth) e) in
-    let a : _≡_ {A = Session} (record { width = s .width; height = s .height; kind = s .kind; depth = s .depth }) (record { width = t .width; height = t .height; kind = t .kind; depth = t .depth }) =
-    rw (w, h, k, d) refl in
-    a
-
 -- one answer says one thing
 pub sps-read-same : (a b : SpsRead) → spsRead a ≡ spsRead b → a ≡ b
-sps-read-same (Sps s) (Sps t) e = let z : sequenceOf s ≡ sequenceOf t = cc in ap Sps (session-same s t z)
+sps-read-same (Sps s) (Sps t) e = let z : sequenceOf s ≡ sequenceOf t = cc in ap Sps (session-one s t z)
 sps-read-same (Sps s) NotForm e = cc
 sps-read-same NotForm (Sps t) e = cc
 sps-read-same NotForm NotForm e = refl
