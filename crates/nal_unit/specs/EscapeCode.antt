@@ -1,5 +1,5 @@
 -- Laws of escaping that its code cites. The count of zero bytes is read off the output: those that stand right before a place, two at most.
---     esc-least, esc-most   an escape is no shorter than its payload, and longer by half at most
+--     esc-least             an escape is no shorter than its payload
 --     run, runEnd           the zero bytes in a row behind a byte, behind a list
 --     counted d at          those before the place `at` of the output d
 -- Assumes nothing.
@@ -19,7 +19,7 @@ use Rattle.lists.specs.Fill.{splice, splice-length, set-splice, splice-splice, 
 use Rattle.lists.specs.Part.{part, part-length, part-none, part-cons, part-append}
 use Rattle.lists.specs.Test.{either}
 use Rattle.nal_unit.specs.ListsCode.{and-false, and-assoc, or-zero, every, part-all, splice-front}
-use Rattle.nal_unit.specs.Escape.{esc, inserts, emit, zeros, escFrom, zerosEnd, esc-nil, esc-append, end-nil, end-append}
+use Rattle.nal_unit.specs.Escape.{esc, inserts, emit, zeros, escFrom, zerosEnd, esc-nil, esc-append, end-nil, end-append, esc-most}
 
 -- whether 03 goes before a byte
 pub inserts-few : (z x : ℕ) → z < 2 → inserts z x ≡ false
@@ -70,17 +70,6 @@ pub esc-least : (z : ℕ) (xs : List ℕ) → length xs ≤ length (escFrom z xs
 unfolding escFrom
 esc-least z [] = omega arith
 esc-least z (x ∷ xs) = omega (arith, length-append (emit z x) (escFrom (zeros z x) xs), emit-least z x, esc-least (zeros z x) xs)
-
--- and longer by half at most
-emit-zeros : (z x : ℕ) → z ≤ 2 → 2 * length (emit z x) + zeros z x ≤ 3 + z
-unfolding emit zeros
-emit-zeros z zero h = elim (case z 0 h) [ hit e f l ↦ rw e (omega arith) | high e f l ↦ absurd (omega arith) | few e f ↦ rw e (omega arith) ]
-emit-zeros z (suc x) h = elim (case z (suc x) h) [ hit e f l ↦ rw (e, eqb·suc-zero x) (omega arith) | high e f l ↦ rw (e, eqb·suc-zero x) (omega arith) | few e f ↦ rw (e, eqb·suc-zero x) (omega arith) ]
-
-pub esc-most : (z : ℕ) (xs : List ℕ) → z ≤ 2 → 2 * length (escFrom z xs) ≤ 3 * length xs + z
-unfolding escFrom
-esc-most z [] h = omega arith
-esc-most z (x ∷ xs) h = omega (arith, length-append (emit z x) (escFrom (zeros z x) xs), emit-zeros z x h, esc-most (zeros z x) xs (zeros-most z x h))
 
 -- the zero bytes that stand in a row behind the byte x, two at most, where z stand before it
 unfoldable pub run : ℕ → ℕ → ℕ
@@ -284,7 +273,7 @@ pub record Counting (z : ℕ) (all : List ℕ) (m y : ℕ) (rest : List ℕ) : T
   pub fits : 2 * length (escFrom z all) ≤ 3 * length all + 2
 
 pub count-begin : (z : ℕ) (xs : List ℕ) → z ≤ 2 → Counting z xs 0 z xs
-count-begin z xs h = record { sizes = omega arith; ending = refl; low = h; fits = omega (arith, esc-most z xs h) }
+count-begin z xs h = record { sizes = omega arith; ending = refl; low = h; fits = omega (arith, esc-most z xs) }
 
 pub count-turn : {z : ℕ} {all : List ℕ} {m y : ℕ} (xs ys : List ℕ) {m′ y′ : ℕ} → Counting z all m y (xs ++ ys) → Counts y xs m′ y′ → Counting z all (m + m′) y′ ys
 count-turn {z} {all} {m} {y} xs ys {m′} {y′} g c =
@@ -302,7 +291,7 @@ count-end {z} {all} {m} {y} g = record { size = omega (arith, ap length (esc-nil
 
 -- what is counted of a part of a slice fits, with room to spare
 pub counts-fit : {z : ℕ} {xs : List ℕ} {n y : ℕ} → z ≤ 2 → Counts z xs n y → 2 * n ≤ 3 * length xs + 2
-counts-fit {z} {xs} h c = rw (c .size) (omega (arith, esc-most z xs h))
+counts-fit {z} {xs} h c = rw (c .size) (omega (arith, esc-most z xs))
 
 -- one byte: 03 goes before it; or not, and it is zero, or not
 pub counts-hit : (z b y : ℕ) → inserts z b ≡ true → y ≡ cond (eqb b 0) 1 0 → Counts z (b ∷ []) 2 y

@@ -19,6 +19,8 @@ use lib.Seq.{length-take-le, take-take, take-add, drop-drop, getD-take, getD-dro
 use borrow.Author.Tests.{lt-ltb, eqb-true, eqb-false, eq-eqb, ne-eqb, le-leb, lt-leb, leb-true, leb-false}
 use Rattle.lists.specs.Part.{part, drop-step}
 use Rattle.lists.specs.Test.{either}
+use Rattle.nal_unit.specs.ListsCode.{or-zero}
+use Rattle.nal_unit.specs.Units.{code-fault}
 use Rattle.nal_unit.specs.StartCode.{code, next, code-is, code-first, next-le, next-past, next-there}
 use Rattle.nal_unit.specs.Scan.{code-at, next-step, trim-zero, trim-last, fault-at}
 use Rattle.nal_unit.specs.Unescape.{over3, faultHere, fault, fault-nil, fault-past}
@@ -26,15 +28,6 @@ use Rattle.nal_unit.specs.Walk.{blank, trim, trimmed}
 use Rattle.nal_unit.specs.declared.scan.UnitScan.{UnitScan}
 
 -- Tests on bytes
-
--- an or is zero where both are
-pub or-zero : (a b : ℕ) → eqb (bitOr a b) 0 ≡ eqb a 0 && eqb b 0
-or-zero a b = by (eqb a 0) (eqb b 0) refl refl
-  where
-    by : (p q : Bool) → eqb a 0 ≡ p → eqb b 0 ≡ q → eqb (bitOr a b) 0 ≡ p && q
-    by true true ea eb = eq-eqb (bitOr a b) 0 (omega (arith, or-add-and a b, eqb-true a 0 ea, eqb-true b 0 eb))
-    by true false ea eb = ne-eqb (bitOr a b) 0 (λ e. eqb-false b 0 eb (omega (arith, or-add-and a b, and-le-l a b)))
-    by false q ea eb = ne-eqb (bitOr a b) 0 (λ e. eqb-false a 0 ea (omega (arith, or-add-and a b, and-le-r a b)))
 
 -- an exclusive or is zero where both are equal
 pub xor-zero : (a b : ℕ) → eqb (bitXor a b) 0 ≡ eqb a b
@@ -262,14 +255,6 @@ fault-before t (high h) = high h
 fault-long : {s : List ℕ} → Fault s → 3 ≤ length s
 fault-long (low h) = omega arith
 fault-long (high h) = omega arith
-
--- a start code is a fault
-pub code-fault : (s : List ℕ) → faultHere s ≡ false → code s ≡ false
-code-fault s e = by (code s) refl
-  where
-    by : (b : Bool) → code s ≡ b → code s ≡ false
-    by true c = absurd (true≢false (sym (ap faultHere (code-is s c) ∙ is-fault (low (omega arith))) ∙ e))
-    by false c = c
 
 -- so that the next start code is not before the first fault
 pub next-first : (s : List ℕ) → next s ≡ firstFault s + next (drop (firstFault s) s)

@@ -19,7 +19,7 @@ use Rattle.nal_unit.specs.StartCode.{code, next, next-nil, clear-cons}
 use Rattle.nal_unit.specs.Walk.{blank, trim, trimmed, Trimmed, Whole}
 
 -- a start code is a fault
-code-fault : (s : List ℕ) → faultHere s ≡ false → code s ≡ false
+pub code-fault : (s : List ℕ) → faultHere s ≡ false → code s ≡ false
 unfolding faultHere code
 code-fault [] e = refl
 code-fault (a ∷ []) e = refl

@@ -6,8 +6,8 @@ use lib.Dec.{leb}
 use lib.ListN.{length}
 use borrow.Author.Needs.{needs}
 use borrow.Author.Tests.{le-leb, lt-leb}
-use Rattle.nal_unit.specs.Escape.{esc}
-use Rattle.nal_unit.specs.EscapeCode.{esc-least, esc-most}
+use Rattle.nal_unit.specs.Escape.{esc, esc-most}
+use Rattle.nal_unit.specs.EscapeCode.{esc-least}
 use Rattle.nal_unit.proofs.has_room.Statement.{statement}
 use Rattle.nal_unit.proofs.has_room.Tie as tie
 
@@ -18,7 +18,7 @@ sub-if2 : tie.Need-sub-if2
 sub-if2 c = search needs
 
 returns-2 : tie.Need-returns-2
-returns-2 c = let a = c .before .before .before .args in sym (le-leb (length (esc (a .payload .now))) (a .room) (omega (arith, esc-most 0 (a .payload .now) (omega arith))))
+returns-2 c = let a = c .before .before .before .args in sym (le-leb (length (esc (a .payload .now))) (a .room) (omega (arith, esc-most 0 (a .payload .now))))
 
 escaped-len-requires : tie.Need-escaped-len-requires
 escaped-len-requires c κs = search needs
