@@ -8,13 +8,13 @@
 use mathlib.Core.Path.{_≡_, refl, sym, ap, _∙_}
 use mathlib.Core.List.{List, [], _∷_, _++_, append-assoc, append-nil}
 use Prim.Native.Nat.{ℕ, zero, suc, _+_, _-_, _*_, _/_, _%_, _≤_, _<_}
-use native.Mathlib.Nat.{add-zero, zero-add, zero-mul, suc-mul, div-add-mod'}
+use native.Mathlib.Nat.{add-zero, zero-add, zero-mul, suc-mul, mul-le-mul-right, div-add-mod'}
 use native.Mathlib.Numerals.{add-one}
 use native.Mathlib.Omega.{arith}
 use lib.ListN.{length, getD, length-append}
 use lib.Seq.{ext-getD}
 use Rattle.slice.specs.Digits.{high-below, low-below}
-use Rattle.lists.specs.Part.{part, part-at, part-none, part-append, part-left, part-right}
+use Rattle.lists.specs.Part.{part, part-length, part-at, part-none, part-append, part-left, part-right}
 
 unfoldable pub cat : (ℕ → List ℕ) → ℕ → ℕ → List ℕ
 cat f i zero = []
@@ -116,6 +116,13 @@ rowsOf s step p w y = part s (p + y * step) w
 pub rows-at : (s : List ℕ) (step p w y : ℕ) → rowsOf s step p w y ≡ part s (p + y * step) w
 unfolding rowsOf
 rows-at s step p w y = refl
+
+-- the first h rows lie in s, each of w elements
+pub rows-even : (s : List ℕ) (step p w h : ℕ) → p + h * step + w ≤ length s + step → Even (rowsOf s step p w) w 0 h
+rows-even s step p w h l = record { each = go }
+  where
+    go : (k : ℕ) → k < h → length (rowsOf s step p w (0 + k)) ≡ w
+    go k b = rw (zero-add k, rows-at s step p w k) (part-length s (p + k * step) w (omega (arith, mul-le-mul-right step b)))
 
 -- rows without a gap are one part
 pub cat-parts : (s : List ℕ) (p w n : ℕ) → cat (rowsOf s w p w) 0 n ≡ part s p (n * w)

@@ -7,3 +7,6 @@ pub mod Blocks
 pub mod Formed
 pub mod Header
 pub mod Picture
+pub mod Laid
+pub mod Pieces
+pub mod Macroblocks
