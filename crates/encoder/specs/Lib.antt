@@ -1,2 +1,4 @@
 pub mod Units
 pub mod Shot
+pub mod Answers
+pub mod Code

@@ -11,18 +11,18 @@
 --                             are right, the visible samples are read back, and it does not end in zero
 -- Assumes nothing.
 use mathlib.Core.Path.{_≡_, refl, sym, ap, _∙_}
-use mathlib.Core.List.{List, [], _∷_, _++_, append-nil}
+use mathlib.Core.List.{List, [], _∷_, _++_}
 use mathlib.Core.Bool.{Bool, true, false, cond}
-use Prim.Native.Nat.{ℕ, zero, suc, _+_, _-_, _*_, _/_, _≤_, _<_}
-use native.Mathlib.Nat.{mul-assoc, zero-mul, add-zero, mul-le-mul}
+use Prim.Native.Nat.{ℕ, zero, suc, _+_, _-_, _*_, _≤_, _<_}
+use native.Mathlib.Nat.{zero-mul, mul-le-mul}
 use native.Mathlib.Omega.{arith}
 use lib.ListN.{length, getD}
-use Rattle.ycbcr_image.specs.Form.{Form, mono, planes, inPlane, bytesOf, blockWidth, blockHeight, blockRowBytes, blockBytes, mbBytes, planes-some, planes-colour}
-use Rattle.ycbcr_image.specs.Sizes.{Sequence, picWidthInMbs, frameHeightInMbs, visibleWidth, visibleHeight, visibleRowBytes, paddedWidth, paddedHeight}
-use Rattle.ycbcr_image.specs.Accepted.{Fine}
+use Rattle.ycbcr_image.specs.Form.{Form, mono, planes, inPlane, blockHeight, blockRowBytes, blockBytes, mbBytes, planes-some, planes-colour}
+use Rattle.ycbcr_image.specs.Sizes.{Sequence, picWidthInMbs, frameHeightInMbs, visibleHeight, visibleRowBytes}
+use Rattle.ycbcr_image.specs.Accepted.{Fine, mbs-most, payload-most}
 use Rattle.slice.specs.Cat.{cat-none, tab}
 use Rattle.slice.specs.Layout.{Plane, lent, mbSize, payload, payload-length, Good, none, more, Rows, lent-rows, slice-last}
-use Rattle.slice.specs.Grid.{Grid, tightOf, visible, gridOf, tight-lent, tight-length}
+use Rattle.slice.specs.Grid.{Grid, tightOf, visible, gridOf, tight-lent}
 use Rattle.slice.specs.Formed.{right, formed-right, payload-formed}
 use Rattle.slice.specs.Header.{headerOf, header-is}
 
@@ -57,6 +57,21 @@ pictureOf q L = payload (headerOf 0 0) (picWidthInMbs q) (planesIn (q .form) L) 
 -- four bytes of header, two bytes before each other macroblock, the samples, the last byte
 unfoldable pub pictureLength : Sequence → ℕ
 pictureLength q = 3 + mbsIn q * (2 + mbBytes (q .form))
+
+-- the length by the numbers that the code has, none of which is too large
+pub record LengthBy (q : Sequence) (h w b : ℕ) : Type 0 where
+  pub mbs : h * w ≤ 1048576
+  pub mb : b ≤ 576
+  pub all : h * w * (2 + b) ≤ 606076928
+  pub sum : 3 + h * w * (2 + b) ≡ pictureLength q
+
+pub length-by : (q : Sequence) (h w b : ℕ) → Fine q → h ≡ frameHeightInMbs q → w ≡ picWidthInMbs q → b ≡ mbBytes (q .form) → LengthBy q h w b
+unfolding pictureLength
+length-by q h w b g eh ew eb = rw (eh, ew, eb) (record { mbs = mbs-most g; mb = g .known .mb-most; all = payload-most g; sum = refl })
+
+pub length-most : {q : Sequence} → Fine q → pictureLength q ≤ 606076931
+unfolding pictureLength
+length-most g = omega (arith, payload-most g)
 
 -- the bytes of a macroblock before the block of plane p
 abbrev pub offIn : Form → ℕ → ℕ

@@ -21,10 +21,10 @@ use Rattle.ycbcr_image.specs.declared.Session.{Session}
 use Rattle.ycbcr_image.specs.Sizes.{Sequence}
 use Rattle.ycbcr_image.specs.Refusals.{sessionOf}
 use Rattle.encoder.specs.Units.{spsUnit, ppsUnit, pictureUnit}
-use Rattle.encoder.specs.Shot.{Shot, imageOf, lendsOf, sequenceIn}
+use Rattle.encoder.specs.Shot.{Shot, imageOf, lendsOf, sequenceIn, shot-whole}
 use Rattle.reader.specs.Judge.{Held, nothing, Word, refused, possible, keep, judge}
 use Rattle.take.specs.Judged.{having, judged-sps, judged-pps, Enough}
-use Rattle.take.specs.Take.{Take, Frames, frames, Framed, sizeOf, unitsOf, wordsOf, pictureUnits, shot-whole, first-framed}
+use Rattle.take.specs.Take.{Take, Frames, frames, Framed, sizeOf, unitsOf, wordsOf, pictureUnits, first-framed}
 use Rattle.take.specs.Reading.{listed, fits, full, sizes}
 use Rattle.take.specs.Cut.{cut-sps, cut-pps, cut-picture, cut-bare}
 

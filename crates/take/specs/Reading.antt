@@ -21,7 +21,7 @@ use Rattle.ycbcr_image.specs.Sizes.{Sequence, sequenceOf}
 use Rattle.ycbcr_image.specs.Refusals.{sessionBad, sessionOf, ofPicture, accepted}
 use Rattle.ycbcr_image.specs.Passed.{Passed}
 use Rattle.encoder.specs.Units.{spsUnit, ppsUnit, pictureUnit}
-use Rattle.encoder.specs.Shot.{Shot, imageOf, lendsOf, sequenceIn}
+use Rattle.encoder.specs.Shot.{Shot, imageOf, lendsOf, sequenceIn, shot-whole}
 use Rattle.reader.specs.Judge as J
 use Rattle.slice.specs.Header.{headerOf}
 use Rattle.slice.specs.Formed.{right}
@@ -29,7 +29,7 @@ use Rattle.ycbcr_image.specs.Form.{mbBytes}
 use Rattle.reader.specs.Judge.{Held, nothing, Samples, Word, sps, pps, picture, refused, possible, counted, keep, spsVerdict, ppsVerdict, short, pictureVerdict, heldVerdict, unitVerdict, judge}
 use Rattle.take.specs.Last.{sps-unit, pps-unit, picture-unit}
 use Rattle.take.specs.Judged.{session-possible, having, counted-is, judged-sps, judged-pps, judged-picture, Enough, not-short, visibleOf}
-use Rattle.take.specs.Take.{Take, Frames, frames, sizeOf, unitsOf, wordsOf, pictureUnits, pictureWords, samplesOf, shot-whole, Framed, first-framed}
+use Rattle.take.specs.Take.{Take, Frames, frames, sizeOf, unitsOf, wordsOf, pictureUnits, pictureWords, samplesOf, Framed, first-framed}
 
 -- words in order, each with the offset of its unit, where the first unit's frame begins at p
 unfoldable pub listed : ℕ → List (List ℕ) → List Word → List (Say Word)

@@ -6,20 +6,14 @@
 --     bytes-units        the bytes are the units in a row, each behind 00 00 00 01
 -- Refusal 9 concerns the lent output alone: a call that passes 1 to 8 is accepted as soon as the output has room.
 -- Assumes nothing.
-use mathlib.Core.Path.{_≡_, refl, sym, ap, _∙_}
+use mathlib.Core.Path.{_≡_, refl, sym, _∙_}
 use mathlib.Core.List.{List, [], _∷_, _++_}
-use mathlib.Core.Bool.{true}
-use Prim.Native.Nat.{ℕ, zero, suc, _+_, _*_, _≤_, _<_}
-use native.Mathlib.Nat.{mul-assoc}
-use native.Mathlib.Omega.{arith}
-use lib.ListN.{length}
+use Prim.Native.Nat.{ℕ}
 use Rattle.nal_unit.specs.Frame.{joined, joined-append, joined-tail}
 use Rattle.slice.specs.Picture as P
-use Rattle.ycbcr_image.specs.declared.YCbCrImage.{YCbCrImage}
-use Rattle.ycbcr_image.specs.Form.{planes, blockHeight, blockRowBytes}
-use Rattle.ycbcr_image.specs.Sizes.{Sequence, picWidthInMbs, frameHeightInMbs}
-use Rattle.ycbcr_image.specs.Refusals.{refusalOf, refusalNext, ofPicture, sessionOf, accepted}
-use Rattle.ycbcr_image.specs.Passed.{Passed, passed, passed-next, across, down}
+use Rattle.ycbcr_image.specs.Sizes.{Sequence}
+use Rattle.ycbcr_image.specs.Refusals.{refusalOf, refusalNext}
+use Rattle.ycbcr_image.specs.Passed.{Passed, passed, passed-next}
 use Rattle.encoder.specs.Units.{spsUnit, ppsUnit, pictureUnit, startUnits, startBytes, nextBytes}
 use Rattle.encoder.specs.Shot.{Shot, imageOf, lendsOf, sequenceIn}
 use Rattle.reader.specs.Judge.{Samples, Word, sps, pps, picture}
@@ -76,20 +70,6 @@ unfolding bytesOf startBytes pictureUnits
 bytes-units T =
     let us = startUnits (sizeOf T) (lendsOf (T .first)) in
     rw (nexts-units (T .others)) (sym (joined-append us (pictureUnits (T .others)) [] ∙ joined-tail us (joined (pictureUnits (T .others)) [])))
-
--- a picture that passes is lent whole
-pub shot-whole : (s : Shot) → Passed (imageOf s) → P.Whole (sequenceIn s) (lendsOf s)
-shot-whole s g = record { across = wide; down = high }
-  where
-    wide : (p : ℕ) → p < planes (sequenceIn s .form) → picWidthInMbs (sequenceIn s) * blockRowBytes (sequenceIn s .form) p ≤ P.lendAt (lendsOf s) p .stride
-    wide zero l = across (g .fine) (g .lent 0 l)
-    wide (suc zero) l = across (g .fine) (g .lent 1 l)
-    wide (suc (suc p)) l = across (g .fine) (g .lent (suc (suc p)) l)
-
-    high : (p : ℕ) → p < planes (sequenceIn s .form) → frameHeightInMbs (sequenceIn s) * blockHeight (sequenceIn s .form) p * P.lendAt (lendsOf s) p .stride ≤ length (P.lendAt (lendsOf s) p .bytes)
-    high zero l = rw (mul-assoc (frameHeightInMbs (sequenceIn s)) (blockHeight (sequenceIn s .form) 0) (s .y .stride)) (down (g .fine) (g .lent 0 l))
-    high (suc zero) l = rw (mul-assoc (frameHeightInMbs (sequenceIn s)) (blockHeight (sequenceIn s .form) 1) (s .cb .stride)) (down (g .fine) (g .lent 1 l))
-    high (suc (suc p)) l = rw (mul-assoc (frameHeightInMbs (sequenceIn s)) (blockHeight (sequenceIn s .form) (suc (suc p))) (s .cr .stride)) (down (g .fine) (g .lent (suc (suc p)) l))
 
 -- every picture of a take passes, and is of its size and kind
 pub record Framed (q : Sequence) (s : Shot) : Type 0 where

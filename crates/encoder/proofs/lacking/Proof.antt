@@ -1,0 +1,50 @@
+-- `encoder::lacking` meets its contract: where there is room for the longest escape there is room for this one. Assumes nothing.
+use mathlib.Core.Path.{ap, _∙_}
+use Prim.Native.Nat.{ℕ, _+_}
+use native.Mathlib.Omega.{arith}
+use borrow.Author.Needs.{needs}
+use Rattle.slice.specs.Picture.{length-most}
+use Rattle.encoder.specs.Code.{picture-most, picture-few, lack-none, lack-some}
+use Rattle.encoder.proofs.lacking.Statement.{statement}
+use Rattle.encoder.proofs.lacking.Tie as tie
+
+payload-len-requires : tie.Need-payload-len-requires
+payload-len-requires c κs = c .before .before .before .pre .0 .fine
+
+add-if1 : tie.Need-add-if1
+add-if1 c = search needs
+
+add-if1-2 : tie.Need-add-if1-2
+add-if1-2 c = omega (arith, c .payload-len .ensures, length-most (c .before .before .before .before .pre .0 .fine), c .before .before .before .before .pre .1)
+
+add-if1-3 : tie.Need-add-if1-3
+add-if1-3 c = omega (arith, c .payload-len .ensures, length-most (c .before .before .before .before .pre .0 .fine), c .before .before .before .before .pre .1)
+
+returns : tie.Need-returns
+returns c = lack-none _ _ (omega (arith, c .if1 .taken, c .before .payload-len .ensures, picture-most (c .before .before .before .before .before .pre .0)))
+
+picture-len-requires : tie.Need-picture-len-requires
+picture-len-requires c κs = search needs
+
+add-need : tie.Need-add-need
+add-need c = omega (arith, c .picture-len .ensures, picture-few (c .before .before .before .before .before .before .pre .0), c .before .before .before .before .before .before .pre .1)
+
+returns-2 : tie.Need-returns-2
+returns-2 c = lack-none _ _ (omega (arith, c .if2 .taken, c .before .picture-len .ensures))
+
+returns-3 : tie.Need-returns-3
+returns-3 c = ap (λ (n : ℕ). c .before .before .before .before .before .before .before .args .before + n) (c .before .picture-len .ensures) ∙ lack-some _ _ (omega (arith, c .if2 .left, c .before .picture-len .ensures))
+
+pub lacking-spec : {M : Type 1} → statement M
+lacking-spec =
+    tie.close
+    (tie.spec
+    payload-len-requires
+    add-if1
+    add-if1-2
+    add-if1-3
+    returns
+    picture-len-requires
+    add-need
+    returns-2
+    returns-3)

@@ -1,0 +1,54 @@
+-- What a call of the writer answers, and what it leaves (paper 01, "Writer's refusals").
+--     numberOf, lengthOf      the paper's number of an answer, 0 where the call is accepted, and its length
+--     sessionAfter            the session that it leaves, where s was held: only an accepted call changes it
+--     encoded-one             an answer is known by its case, its number, its length and its session
+--     answerOf, outOf         of a call that 1 to 8 refuse with r, 0 for none, and that would write w: the answer, and the output, which held d
+--     startOf, startOut       the start call: SPS, PPS and the first picture
+--     nextOf, nextOut         the next call in a session: one picture
+-- Assumes nothing.
+use mathlib.Core.List.{List, _++_}
+use mathlib.Core.Bool.{cond}
+use Prim.Native.Nat.{ℕ}
+use lib.Dec.{eqb, leb}
+use lib.ListN.{length, drop}
+use Rattle.ycbcr_image.specs.declared.Session.{Session}
+use Rattle.ycbcr_image.specs.Sizes.{sequenceOf}
+use Rattle.ycbcr_image.specs.Refusals.{sessionOf, refusalOf, refusalNext}
+use Rattle.encoder.specs.declared.Encoded.{Encoded}
+use Rattle.encoder.specs.declared.Encoded.the-variants.{Written, NoRoom, Refused}
+use Rattle.encoder.specs.Shot.{Shot, imageOf, lendsOf, sequenceIn}
+use Rattle.encoder.specs.Units.{startBytes, nextBytes}
+
+abbrev pub numberOf : Encoded → ℕ
+numberOf (Written s n) = 0
+numberOf (NoRoom n) = 9
+numberOf (Refused r) = r
+
+-- only 9 answers a length among the refusals
+abbrev pub lengthOf : Encoded → ℕ
+lengthOf (Written s n) = n
+lengthOf (NoRoom n) = n
+lengthOf (Refused r) = 0
+
+abbrev pub sessionAfter : Encoded → Session → Session
+sessionAfter (Written t n) s = t
+sessionAfter (NoRoom n) s = s
+sessionAfter (Refused r) s = s
+
+unfoldable pub answerOf : ℕ → Session → List ℕ → ℕ → Encoded
+answerOf r s w room = cond (eqb r 0) (cond (leb (length w) room) (Written s (length w)) (NoRoom (length w))) (Refused r)
+
+unfoldable pub outOf : ℕ → List ℕ → List ℕ → List ℕ
+outOf r w d = cond (eqb r 0) (cond (leb (length w) (length d)) (w ++ drop (length w) d) d) d
+
+unfoldable pub startOf : Shot → List ℕ → Encoded
+startOf p d = answerOf (refusalOf (imageOf p)) (sessionOf (imageOf p)) (startBytes (sequenceIn p) (lendsOf p)) (length d)
+
+unfoldable pub startOut : Shot → List ℕ → List ℕ
+startOut p d = outOf (refusalOf (imageOf p)) (startBytes (sequenceIn p) (lendsOf p)) d
+
+unfoldable pub nextOf : Session → Shot → List ℕ → Encoded
+nextOf s p d = answerOf (refusalNext (sequenceOf s) (imageOf p)) s (nextBytes (sequenceIn p) (lendsOf p)) (length d)
+
+unfoldable pub nextOut : Session → Shot → List ℕ → List ℕ
+nextOut s p d = outOf (refusalNext (sequenceOf s) (imageOf p)) (nextBytes (sequenceIn p) (lendsOf p)) d
