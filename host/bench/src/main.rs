@@ -93,7 +93,7 @@ fn best(frame: &Frame, rounds: u32) -> Result<Best, Refusal> {
 fn line(kind: Kind, content: Content, slack: usize, best: &Best, theirs: Option<f64>) -> String {
     let rows = match slack {
         0 => "tight".to_string(),
-        slack => format!("{slack} more"),
+        slack => format!("+{slack} bytes"),
     };
     let Best { ample, exact, copy } = best;
     let to_crate = |ours: f64| theirs.map_or("-".into(), |ms| format!("{:.1}", ms / ours));

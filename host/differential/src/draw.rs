@@ -24,14 +24,14 @@ pub fn stray_session(noise: &mut Noise) -> [u32; 8] {
     }
 }
 
-/// A call. A next call mostly has the session's shape.
+/// A call. A next call mostly has the session's shape, or the nearest that exists.
 pub fn call(noise: &mut Noise, next: bool, session: [u32; 8]) -> Call {
     let mut shape = match session {
         [width @ 1..=16_384, height @ 1..=16_384, colour, depth, ..]
             if next && !noise.once_in(8) =>
         {
-            let depths = [depth; 3];
-            Shape { width, height, colour, depths }
+            let depth = if depth == 12 { 12 } else { 8 };
+            Shape { width, height, colour: colour.min(1), depths: [depth; 3] }
         }
         _ => good_shape(noise),
     };

@@ -267,15 +267,15 @@ fn run(options: Options) -> Result<(), String> {
         if let Err(Difference { what, session, request }) = run.take(Noise::new(seed, take)) {
             println!("session {session:?}");
             println!("{}", shown(&request, count == 1));
-            println!("again, with every digit: differential --seed {seed} --take {take}");
+            println!("again, with every digit: the same with --seed {seed} --take {take}");
             return Err(format!("a difference in take {take}: {what}"));
         }
     }
     print!("{}", run.table());
     let Run { by_crate, astray, unasked, .. } = run;
     println!(
-        "{} calls: {by_crate} compared with the crate and the plain writer; {} with the plain \
-         table alone (the crate has no test in {astray}, and wasn't asked in {unasked})",
+        "{} calls: {by_crate} compared with the crate and the plain writer; {} with the plain table \
+         and writer alone (the crate has no test in {astray}, and wasn't asked in {unasked})",
         by_crate + astray + unasked,
         astray + unasked
     );

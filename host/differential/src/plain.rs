@@ -12,7 +12,8 @@ pub struct Fault {
 }
 
 /// Everything up to 8 that is wrong with the call, in the table's order, so that the first one is
-/// the refusal. A number that is no colour or depth leaves nothing else to ask.
+/// the refusal. A number that is no colour or depth leaves nothing else to ask; a stride of 0, where
+/// no row can be counted, is 7's.
 pub fn faults(call: &Call) -> Vec<Fault> {
     let depths = call.planes.each_ref().map(|plane| plane.depth);
     let mut numbers = shape_faults(call.width, call.height, call.colour, depths);

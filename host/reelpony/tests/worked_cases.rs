@@ -2,9 +2,10 @@
 //! refusals, through the safe layer.
 
 use reelpony::ycbcr_image::{DataPlane, Planes, YCbCrImage};
-use reelpony::{ffi, next, start, BitDepth, Refusal};
+use reelpony::BitDepth::{self, Depth12, Depth8};
+use reelpony::{ffi, next, start, Refusal};
 
-/// A plane of `rows` tight rows, each byte `value`, and its stride.
+/// A plane with tight rows.
 struct Plane {
     data: Vec<u8>,
     stride: usize,
@@ -12,10 +13,10 @@ struct Plane {
 }
 
 impl Plane {
-    /// As wide and high as `width` and `height` padded to multiples of `side`.
+    /// As wide and high as `width` and `height` padded to multiples of `side`, each byte `value`.
     fn padded(width: u32, height: u32, side: u32, bit_depth: BitDepth, value: u8) -> Plane {
         let samples = width.next_multiple_of(side) as usize;
-        let stride = samples * bit_depth.num_bits() as usize / 8;
+        let stride = samples * usize::from(bit_depth.num_bits()) / 8;
         let rows = height.next_multiple_of(side) as usize;
         Plane { data: vec![value; stride * rows], stride, bit_depth }
     }
@@ -25,44 +26,31 @@ impl Plane {
     }
 }
 
-/// The start call of a monochrome picture whose bytes are all `value`, with `room` for its bytes.
-fn mono(
-    width: u32,
-    height: u32,
-    depth: BitDepth,
-    value: u8,
-    room: usize,
-) -> Result<Vec<u8>, Refusal> {
-    let y = Plane::padded(width, height, 16, depth, value);
-    let planes = Planes::Mono(y.lent());
-    written(YCbCrImage { planes, width, height }, room)
-}
+/// Room for every picture here.
+const AMPLE: usize = 1 << 20;
 
-/// The same in colour.
-fn colour(
-    width: u32,
-    height: u32,
-    depth: BitDepth,
-    value: u8,
-    room: usize,
-) -> Result<Vec<u8>, Refusal> {
-    let y = Plane::padded(width, height, 16, depth, value);
-    let chroma = Plane::padded(width / 2, height / 2, 8, depth, value);
-    let planes = Planes::YCbCr((y.lent(), chroma.lent(), chroma.lent()));
-    written(YCbCrImage { planes, width, height }, room)
-}
-
-/// The bytes that a start call writes.
-fn written(image: YCbCrImage, room: usize) -> Result<Vec<u8>, Refusal> {
+/// The bytes that the start call of a picture writes into `room`; those behind must stay.
+fn written(image: &YCbCrImage, room: usize) -> Result<Vec<u8>, Refusal> {
     let mut out = vec![0xEE; room];
-    let (length, _) = start(&image, &mut out)?;
+    let (length, _) = start(image, &mut out)?;
     assert!(out[length..].iter().all(|&byte| byte == 0xEE));
     out.truncate(length);
     Ok(out)
 }
 
-/// Room for every picture here.
-const AMPLE: usize = 1 << 20;
+/// The same for a monochrome picture whose bytes are all `value`.
+fn mono(width: u32, height: u32, depth: BitDepth, value: u8) -> Result<Vec<u8>, Refusal> {
+    let y = Plane::padded(width, height, 16, depth, value);
+    written(&YCbCrImage { planes: Planes::Mono(y.lent()), width, height }, AMPLE)
+}
+
+/// The same for one in colour.
+fn colour(width: u32, height: u32, depth: BitDepth, value: u8) -> Result<Vec<u8>, Refusal> {
+    let y = Plane::padded(width, height, 16, depth, value);
+    let chroma = Plane::padded(width / 2, height / 2, 8, depth, value);
+    let planes = Planes::YCbCr((y.lent(), chroma.lent(), chroma.lent()));
+    written(&YCbCrImage { planes, width, height }, AMPLE)
+}
 
 #[test]
 fn mono_8_of_286_bytes() {
@@ -72,34 +60,32 @@ fn mono_8_of_286_bytes() {
     expected.extend([0x10; 256]);
     expected.push(0x80);
     assert_eq!(expected.len(), 286);
-    let depth = BitDepth::Depth8;
-    assert_eq!(mono(16, 16, depth, 0x10, AMPLE), Ok(expected.clone()));
-    assert_eq!(mono(16, 16, depth, 0x10, 286), Ok(expected));
-    let refusal = mono(16, 16, depth, 0x10, 285).unwrap_err();
-    assert_eq!(refusal, Refusal::Output { needed: 286 });
+    let y = Plane::padded(16, 16, 16, Depth8, 0x10);
+    let image = YCbCrImage { planes: Planes::Mono(y.lent()), width: 16, height: 16 };
+    assert_eq!(written(&image, 285), Err(Refusal::Output { needed: 286 }));
+    assert_eq!(written(&image, 286), Ok(expected.clone()));
+    assert_eq!(written(&image, AMPLE), Ok(expected));
 }
 
 #[test]
 fn lengths() {
-    let of = |bytes: Result<Vec<u8>, Refusal>| bytes.map(|bytes| bytes.len());
-    assert_eq!(of(mono(16, 16, BitDepth::Depth8, 0, AMPLE)), Ok(413));
-    assert_eq!(of(colour(16, 16, BitDepth::Depth8, 0x10, AMPLE)), Ok(414));
+    assert_eq!(mono(16, 16, Depth8, 0).unwrap().len(), 413);
+    assert_eq!(colour(16, 16, Depth8, 0x10).unwrap().len(), 414);
 }
 
-/// Cases 4 to 6: the sequence parameter set of other sizes and kinds.
+/// Cases 4 to 6: the sequence parameter set of other sizes and kinds, behind its start code.
 #[test]
 fn parameter_sets() {
-    let sps = |bytes: Result<Vec<u8>, Refusal>, length: usize| bytes.unwrap()[4..length].to_vec();
     assert_eq!(
-        sps(mono(17, 16, BitDepth::Depth8, 0x10, AMPLE), 14),
+        mono(17, 16, Depth8, 0x10).unwrap()[4..14],
         [0x67, 0x64, 0, 0x0A, 0xF3, 0xCB, 0x61, 0x0E, 0x6C, 4]
     );
     assert_eq!(
-        sps(mono(16, 16, BitDepth::Depth12, 0x10, AMPLE), 13),
+        mono(16, 16, Depth12, 0x10).unwrap()[4..13],
         [0x67, 0xF4, 0, 0x0A, 0xCA, 0x53, 0xDC, 0x9B, 1]
     );
     assert_eq!(
-        sps(colour(16, 16, BitDepth::Depth8, 0x10, AMPLE), 12),
+        colour(16, 16, Depth8, 0x10).unwrap()[4..12],
         [0x67, 0x42, 0, 0x0A, 0xFB, 0x93, 0x60, 0x20]
     );
 }
@@ -107,35 +93,34 @@ fn parameter_sets() {
 #[test]
 fn limits_of_size() {
     let number = |bytes: Result<Vec<u8>, Refusal>| bytes.map_or_else(|r| r.number(), |_| 0);
-    let (eight, twelve) = (BitDepth::Depth8, BitDepth::Depth12);
-    assert_eq!(number(mono(16_384, 1, eight, 0x10, AMPLE)), 0);
-    assert_eq!(number(mono(16_385, 1, eight, 0x10, AMPLE)), 1);
-    assert_eq!(number(mono(1, 16_384, eight, 0x10, AMPLE)), 0);
-    assert_eq!(number(mono(1, 16_385, eight, 0x10, AMPLE)), 1);
-    assert_eq!(number(mono(0, 16, eight, 0x10, AMPLE)), 1);
-    assert_eq!(number(mono(1, 1, eight, 0x10, AMPLE)), 0);
-    assert_eq!(number(mono(1, 1, twelve, 0x10, AMPLE)), 4);
-    assert_eq!(number(colour(16, 16, eight, 0x10, AMPLE)), 0);
-    assert_eq!(number(colour(16, 17, eight, 0x10, AMPLE)), 5);
-    assert_eq!(number(colour(4, 2, twelve, 0x10, AMPLE)), 0);
-    assert_eq!(number(colour(6, 2, twelve, 0x10, AMPLE)), 3);
+    assert_eq!(number(mono(16_384, 1, Depth8, 0x10)), 0);
+    assert_eq!(number(mono(16_385, 1, Depth8, 0x10)), 1);
+    assert_eq!(number(mono(1, 16_384, Depth8, 0x10)), 0);
+    assert_eq!(number(mono(1, 16_385, Depth8, 0x10)), 1);
+    assert_eq!(number(mono(0, 16, Depth8, 0x10)), 1);
+    assert_eq!(number(mono(1, 1, Depth8, 0x10)), 0);
+    assert_eq!(number(mono(1, 1, Depth12, 0x10)), 4);
+    assert_eq!(number(colour(16, 16, Depth8, 0x10)), 0);
+    assert_eq!(number(colour(16, 17, Depth8, 0x10)), 5);
+    assert_eq!(number(colour(4, 2, Depth12, 0x10)), 0);
+    assert_eq!(number(colour(6, 2, Depth12, 0x10)), 3);
 }
 
 #[test]
 fn a_plane_one_byte_short() {
-    let y = Plane::padded(16, 16, 16, BitDepth::Depth8, 0x10);
+    let y = Plane::padded(16, 16, 16, Depth8, 0x10);
     let short = DataPlane { data: &y.data[1..], ..y.lent() };
     let narrow = DataPlane { stride: 15, ..y.lent() };
     for (plane, refusal) in [(short, Refusal::Rows), (narrow, Refusal::Stride)] {
         let image = YCbCrImage { planes: Planes::Mono(plane), width: 16, height: 16 };
-        assert_eq!(written(image, AMPLE), Err(refusal));
+        assert_eq!(written(&image, AMPLE), Err(refusal));
     }
 }
 
 /// A next call writes the picture alone, and wants a picture like the first.
 #[test]
 fn next_picture() {
-    let y = Plane::padded(16, 16, 16, BitDepth::Depth8, 0x10);
+    let y = Plane::padded(16, 16, 16, Depth8, 0x10);
     let mut image = YCbCrImage { planes: Planes::Mono(y.lent()), width: 16, height: 16 };
     let mut out = [0; 286];
     let (length, mut session) = start(&image, &mut out).unwrap();
@@ -145,8 +130,7 @@ fn next_picture() {
 
     let before = session;
     image.width = 15;
-    let refusal = next(&mut session, &image, &mut more).unwrap_err();
-    assert_eq!(refusal, Refusal::OtherThanSession);
+    assert_eq!(next(&mut session, &image, &mut more), Err(Refusal::OtherThanSession));
     assert_eq!(session, before);
 }
 
