@@ -1,0 +1,205 @@
+//! The library's two exports, as `include/reelpony.h` declares them, and the only unsafe code.
+//!
+//! [`start`] and [`next`] take the numbers as the exports do, so that a test can pass a colour or a
+//! depth that doesn't exist. Other callers use those of the crate itself.
+
+extern "C" {
+    fn reelpony_start(
+        width: u32,
+        height: u32,
+        colour: u32,
+        y: *const u8,
+        y_len: usize,
+        y_stride: usize,
+        y_depth: u32,
+        cb: *const u8,
+        cb_len: usize,
+        cb_stride: usize,
+        cb_depth: u32,
+        cr: *const u8,
+        cr_len: usize,
+        cr_stride: usize,
+        cr_depth: u32,
+        out: *mut u8,
+        out_len: usize,
+        session: &mut [u32; 8],
+        length: &mut u64,
+    ) -> u32;
+
+    fn reelpony_next(
+        width: u32,
+        height: u32,
+        colour: u32,
+        y: *const u8,
+        y_len: usize,
+        y_stride: usize,
+        y_depth: u32,
+        cb: *const u8,
+        cb_len: usize,
+        cb_stride: usize,
+        cb_depth: u32,
+        cr: *const u8,
+        cr_len: usize,
+        cr_stride: usize,
+        cr_depth: u32,
+        out: *mut u8,
+        out_len: usize,
+        session: &mut [u32; 8],
+        length: &mut u64,
+    ) -> u32;
+}
+
+/// A plane with its depth as a number.
+#[derive(Clone, Copy)]
+pub struct Plane<'a> {
+    /// Its rows, `stride` bytes each.
+    pub bytes: &'a [u8],
+    /// Bytes from one row's begin to the next one's.
+    pub stride: usize,
+    /// Bits a sample.
+    pub depth: u32,
+}
+
+/// A picture with its kind as a number.
+#[derive(Clone, Copy)]
+pub struct Picture<'a> {
+    /// Visible samples in a row of Y.
+    pub width: u32,
+    /// Visible rows of Y.
+    pub height: u32,
+    /// 0: monochrome; 1: 4:2:0.
+    pub colour: u32,
+    /// Y, Cb, Cr.
+    pub planes: [Plane<'a>; 3],
+}
+
+/// What a call answers.
+#[derive(Clone, Copy, Debug, PartialEq, Eq)]
+pub struct Answer {
+    /// 0 for accepted, otherwise the refusal.
+    pub number: u32,
+    /// The length written, or needed with refusal 9, or 0.
+    pub length: u64,
+}
+
+/// `reelpony_start`: parameter sets and a first picture.
+pub fn start(picture: &Picture, out: &mut [u8], session: &mut [u32; 8]) -> Answer {
+    call(false, picture, out, session)
+}
+
+/// `reelpony_next`: one more picture of the session's take.
+pub fn next(picture: &Picture, out: &mut [u8], session: &mut [u32; 8]) -> Answer {
+    call(true, picture, out, session)
+}
+
+/// Either export. The length begins as one that no call answers, so that a call which doesn't set
+/// it would be seen.
+fn call(next: bool, picture: &Picture, out: &mut [u8], session: &mut [u32; 8]) -> Answer {
+    let export = if next { reelpony_next } else { reelpony_start };
+    let [y, cb, cr] = picture.planes;
+    let mut length = u64::MAX;
+    // Sound for any numbers: the exports are proved to touch the lent bytes alone, each pointer
+    // comes from a slice with its length and so isn't null, and `out`, `session` and `length` are
+    // borrowed for this call only.
+    let number = unsafe {
+        export(
+            picture.width,
+            picture.height,
+            picture.colour,
+            y.bytes.as_ptr(),
+            y.bytes.len(),
+            y.stride,
+            y.depth,
+            cb.bytes.as_ptr(),
+            cb.bytes.len(),
+            cb.stride,
+            cb.depth,
+            cr.bytes.as_ptr(),
+            cr.bytes.len(),
+            cr.stride,
+            cr.depth,
+            out.as_mut_ptr(),
+            out.len(),
+            session,
+            &mut length,
+        )
+    };
+    Answer { number, length }
+}
+
+/// The linker compares names alone, so this holds the declarations above to the header's.
+#[cfg(test)]
+mod tests {
+    /// A parameter's name, and its type in Rust's words.
+    type Parameter = (String, String);
+
+    /// C's text without its comments.
+    fn without_comments(text: &str) -> String {
+        let mut kept = String::new();
+        let mut rest = text;
+        while let Some((code, comment)) = rest.split_once("/*") {
+            kept += code;
+            rest = comment.split_once("*/").expect("a comment that ends").1;
+        }
+        kept + rest
+    }
+
+    /// The functions whose text stands between `begin` and `end`: their names, the prefix
+    /// `reelpony_` left out, and their parameters. Rust's has a comma behind the last one.
+    fn functions(
+        text: &str,
+        begin: &str,
+        end: &str,
+        parameter: fn(&str) -> Parameter,
+    ) -> Vec<(String, Vec<Parameter>)> {
+        let function = |text: &str| {
+            let (text, _) = text.split_once(end).expect("an end");
+            let (name, parameters) = text.split_once('(').expect("a parenthesis");
+            let parameters = parameters.trim().trim_end_matches(',').split(',');
+            (name.to_string(), parameters.map(parameter).collect())
+        };
+        text.split(begin).skip(1).map(function).collect()
+    }
+
+    /// `const uint8_t *y`, `uint32_t session[8]` and the like.
+    fn from_c(parameter: &str) -> Parameter {
+        let type_end = parameter.rfind(['*', ' ']).expect("a type") + 1;
+        let (c_type, name) = parameter.split_at(type_end);
+        let (name, length) = name.split_once('[').unwrap_or((name, ""));
+        let rust_type = match (c_type.trim(), length.trim_end_matches(']')) {
+            ("uint32_t", "") => "u32".to_string(),
+            ("size_t", "") => "usize".to_string(),
+            ("const uint8_t *", "") => "*const u8".to_string(),
+            ("uint8_t *", "") => "*mut u8".to_string(),
+            ("uint64_t *", "") => "&mut u64".to_string(),
+            ("uint32_t", length) => format!("&mut [u32; {length}]"),
+            other => panic!("a type of the header that this test doesn't know: {other:?}"),
+        };
+        (name.to_string(), rust_type)
+    }
+
+    /// `y: *const u8` and the like.
+    fn from_rust(parameter: &str) -> Parameter {
+        let (name, rust_type) = parameter.trim().split_once(": ").expect("a colon");
+        (name.to_string(), rust_type.to_string())
+    }
+
+    #[test]
+    fn declarations_are_the_headers() {
+        let header = without_comments(include_str!("../../../include/reelpony.h"));
+        assert_eq!(header.matches("reelpony_").count(), 2, "functions");
+        let source = include_str!("ffi.rs").split("\n}").next().unwrap();
+
+        let header = functions(&header, "uint32_t reelpony_", ");", from_c);
+        let source = functions(source, "fn reelpony_", ") -> u32;", from_rust);
+        assert_eq!(header.len(), 2);
+        assert_eq!(source.len(), 2);
+        for ((c_name, c), (rust_name, rust)) in header.iter().zip(&source) {
+            assert_eq!(rust_name, c_name);
+            assert_eq!(rust.len(), c.len(), "parameters of {c_name}");
+            for (c, rust) in c.iter().zip(rust) {
+                assert_eq!(rust, c, "a parameter of {c_name}");
+            }
+        }
+    }
+}
