@@ -66,6 +66,35 @@ fn copy_rows(
     a
 }
 
+// The same for the widths that there are, each by itself: a loop over rows of a fixed width is fast.
+fn lay_rows(
+    s: &[u8],
+    p: usize,
+    stride: usize,
+    w: usize,
+    h: usize,
+    out: &mut [u8],
+    at: usize,
+) -> usize
+    requires { ⌜ (p + h * stride + w ≤ length (now s) + stride) × (h * stride ≤ length (now s)) ⌝ }
+    requires { ⌜ at + h * w ≤ length (now out) ⌝ }
+    ensures { λ r. ⌜ Laid (now (out .entry)) at (cat (rowsOf (now (s .entry)) stride p w) 0 h) (now (out .exit)) r ⌝ }
+{
+    if w == 16 {
+        return copy_rows(s, p, stride, 16, h, out, at);
+    }
+    if w == 8 {
+        return copy_rows(s, p, stride, 8, h, out, at);
+    }
+    if w == 24 {
+        return copy_rows(s, p, stride, 24, h, out, at);
+    }
+    if w == 12 {
+        return copy_rows(s, p, stride, 12, h, out, at);
+    }
+    copy_rows(s, p, stride, w, h, out, at)
+}
+
 // Lays the block of plane p, which lies in a, in macroblock row my and column mx.
 fn block(
     a: &[u8],
@@ -83,7 +112,7 @@ fn block(
 {
     let w = ycbcr_image::block_row_bytes(s, p);
     let h = ycbcr_image::mb_height(s, p);
-    copy_rows(a, my * (h * stride) + mx * w, stride, w, h, out, at)
+    lay_rows(a, my * (h * stride) + mx * w, stride, w, h, out, at)
 }
 
 // Lays the samples of the macroblock in row my and column mx. In monochrome the blocks of Cb and Cr are empty.

@@ -13,32 +13,32 @@ block-row-bytes-requires c κs = search needs
 mb-height-requires : tie.Need-mb-height-requires
 mb-height-requires c κs = search needs
 
-mul-copy-rows : tie.Need-mul-copy-rows
-mul-copy-rows c =
+mul-lay-rows : tie.Need-mul-lay-rows
+mul-lay-rows c =
     let s = c .before .before .before .before in
     let g = inside-as (c .before .block-row-bytes .ensures) (c .mb-height .ensures) (s .pre .0) in
     omega (arith, g .across, g .down)
 
-mul-copy-rows-2 : tie.Need-mul-copy-rows-2
-mul-copy-rows-2 c =
+mul-lay-rows-2 : tie.Need-mul-lay-rows-2
+mul-lay-rows-2 c =
     let s = c .before .before .before .before in
     let g = inside-as (c .before .block-row-bytes .ensures) (c .mb-height .ensures) (s .pre .0) in
     omega (arith, g .across, g .down)
 
-mul-copy-rows-3 : tie.Need-mul-copy-rows-3
-mul-copy-rows-3 c =
+mul-lay-rows-3 : tie.Need-mul-lay-rows-3
+mul-lay-rows-3 c =
     let s = c .before .before .before .before in
     let g = inside-as (c .before .block-row-bytes .ensures) (c .mb-height .ensures) (s .pre .0) in
     omega (arith, g .across, g .down)
 
-add-copy-rows : tie.Need-add-copy-rows
-add-copy-rows c =
+add-lay-rows : tie.Need-add-lay-rows
+add-lay-rows c =
     let s = c .before .before .before .before in
     let g = inside-as (c .before .block-row-bytes .ensures) (c .mb-height .ensures) (s .pre .0) in
     omega (arith, inside-place g 18446744073709551615 (omega arith) (omega arith))
 
-copy-rows-requires : tie.Need-copy-rows-requires
-copy-rows-requires c κs =
+lay-rows-requires : tie.Need-lay-rows-requires
+lay-rows-requires c κs =
     let s = c .before .before .before .before .before in
     let w = c .before .before .block-row-bytes .ensures in
     let h = c .before .mb-height .ensures in
@@ -51,7 +51,7 @@ same-length c = search needs
 returns : tie.Need-returns
 returns c =
     let s = c .before .before .before .before .before .before .before .before in
-    laid-block (sequenceOf (s .args .s) .form) (s .args .p) (lend (s .args .a .now) (s .args .stride)) (s .args .my) (s .args .mx) _ _ (c .before .before .before .before .before .block-row-bytes .ensures) (c .before .before .before .before .mb-height .ensures) (c .before .before .copy-rows .ensures)
+    laid-block (sequenceOf (s .args .s) .form) (s .args .p) (lend (s .args .a .now) (s .args .stride)) (s .args .my) (s .args .mx) _ _ (c .before .before .before .before .before .block-row-bytes .ensures) (c .before .before .before .before .mb-height .ensures) (c .before .before .lay-rows .ensures)
 
 pub block-spec : {M : Type 1} → statement M
 block-spec =
@@ -59,10 +59,10 @@ block-spec =
     (tie.spec
     block-row-bytes-requires
     mb-height-requires
-    mul-copy-rows
-    mul-copy-rows-2
-    mul-copy-rows-3
-    add-copy-rows
-    copy-rows-requires
+    mul-lay-rows
+    mul-lay-rows-2
+    mul-lay-rows-3
+    add-lay-rows
+    lay-rows-requires
     same-length
     returns)
