@@ -7,7 +7,9 @@ use crate::samples::DRAWN;
 use crate::samples::draw;
 use crate::sum::EMPTY;
 use crate::sum::sum_of;
+use encoder::Depths;
 use encoder::Encoded;
+use slice::Strides;
 use ycbcr_image::BitDepth;
 use ycbcr_image::Kind;
 use ycbcr_image::Session;
@@ -99,6 +101,16 @@ fn make(held: Session, call: Call, y: &[u8], cb: &[u8], cr: &[u8], out: &mut [u8
     let y_depth = y_plane.depth;
     let cb_depth = cb_plane.depth;
     let cr_depth = cr_plane.depth;
+    let strides = Strides {
+        y: y_plane.stride,
+        cb: cb_plane.stride,
+        cr: cr_plane.stride,
+    };
+    let depths = Depths {
+        y: y_depth,
+        cb: cb_depth,
+        cr: cr_depth,
+    };
     if call.next {
         let e = encoder::next(
             held,
@@ -106,33 +118,15 @@ fn make(held: Session, call: Call, y: &[u8], cb: &[u8], cr: &[u8], out: &mut [u8
             i.height,
             kind,
             y,
-            y_plane.stride,
-            y_depth,
             cb,
-            cb_plane.stride,
-            cb_depth,
             cr,
-            cr_plane.stride,
-            cr_depth,
+            strides,
+            depths,
             out,
         );
         return answer_of(e, held);
     }
-    let e = encoder::start(
-        i.width,
-        i.height,
-        kind,
-        y,
-        y_plane.stride,
-        y_depth,
-        cb,
-        cb_plane.stride,
-        cb_depth,
-        cr,
-        cr_plane.stride,
-        cr_depth,
-        out,
-    );
+    let e = encoder::start(i.width, i.height, kind, y, cb, cr, strides, depths, out);
     answer_of(e, held)
 }
 

@@ -97,10 +97,10 @@ pub fn put_slice(s: &[u8], p: usize, n: usize, out: &mut [u8], at: usize) -> usi
 }
 
 // Escapes the n bytes of payload that stand in the output as they are, from the place `at` on, where they stand, and answers the place behind them. Where one
-// of them wants 03, they are written again from a copy. 776 bytes are a macroblock of any kind with its head.
+// of them wants 03, they are written again from a copy. 1040 bytes are a kilobyte of samples with the heads of their macroblocks.
 pub fn mend(out: &mut [u8], at: usize, n: usize) -> usize
     requires { ⌜ 2 ≤ at ⌝ }
-    requires { ⌜ n ≤ 776 ⌝ }
+    requires { ⌜ n ≤ 1040 ⌝ }
     requires { ⌜ at + n ≤ length (now out) ⌝ }
     requires { ⌜ at + length (escFrom (counted (now out) at) (part (now out) at n)) ≤ length (now out) ⌝ }
     ensures { λ r. ⌜ Put (now (out .entry)) at (part (now (out .entry)) at n) (now (out .exit)) r ⌝ }
@@ -108,7 +108,7 @@ pub fn mend(out: &mut [u8], at: usize, n: usize) -> usize
     if calm::calm(&*out, at, n) {
         return at + n;
     }
-    let mut plain = [0u8; 776];
+    let mut plain = [0u8; 1040];
     rows::copy(&*out, at, n, &mut plain[..], 0);
     put_slice(&plain[..], 0, n, out, at)
 }

@@ -91,7 +91,7 @@ even-take : {f : ℕ → List ℕ} {m i n : ℕ} (k : ℕ) → k ≤ n → Even 
 even-take k h e = record { each = λ j l. e .each j (omega arith) }
 
 -- the pieces before k, the piece k, and the others
-cat-split : (f : ℕ → List ℕ) (i n k : ℕ) → k < n → cat f i n ≡ cat f i k ++ (f (i + k) ++ cat f (i + k + 1) (n - (k + 1)))
+pub cat-split : (f : ℕ → List ℕ) (i n k : ℕ) → k < n → cat f i n ≡ cat f i k ++ (f (i + k) ++ cat f (i + k + 1) (n - (k + 1)))
 cat-split f i n k h =
     let d : n ≡ k + (n - (k + 1) + 1) = omega arith in
     ap (λ (t : ℕ). cat f i t) d ∙ (cat-append f i k (n - (k + 1) + 1) ∙ ap (λ (t : List ℕ). cat f i k ++ t) (cat-more f (i + k) (n - (k + 1))))

@@ -5,13 +5,13 @@
 -- Assumes nothing.
 use mathlib.Core.Path.{_≡_, refl, sym, ap, _∙_}
 use mathlib.Core.List.{List, _++_}
-use Prim.Native.Nat.{ℕ, _+_, _*_, _≤_, _<_}
-use native.Mathlib.Nat.{add-zero, zero-add, zero-mul, suc-mul, mul-le-mul-right}
+use Prim.Native.Nat.{ℕ, _+_, _-_, _≤_, _<_}
+use native.Mathlib.Nat.{add-zero}
 use native.Mathlib.Omega.{arith}
 use lib.ListN.{length, length-append}
 use Rattle.lists.specs.Fill.{splice, splice-length, splice-none, splice-splice}
 use Rattle.lists.specs.Part.{part, part-all}
-use Rattle.slice.specs.Cat.{cat, cat-none, cat-last, cat-length, Even}
+use Rattle.slice.specs.Cat.{cat, cat-none, cat-last, cat-split}
 
 pub record Laid (d : List ℕ) (at : ℕ) (xs d′ : List ℕ) (at′ : ℕ) : Type 0 where
   pub place : at′ ≡ at + length xs
@@ -36,45 +36,38 @@ laid-more {d} {at} {xs} ys h g k =
       bytes = rw (k .bytes, g .place, g .bytes) (splice-splice d at xs ys (omega arith));
     }
 
--- The pieces f 0 to f (n - 1), of w elements each, are being laid at the place `at` of a buffer that held d: k of them stand there, up to the place a.
-pub record Laying (d : List ℕ) (at : ℕ) (f : ℕ → List ℕ) (w n : ℕ) (out : List ℕ) (a k : ℕ) : Type 0 where
-  pub laid : Laid d at (cat f 0 k) out a
-  pub even : Even f w 0 n
+-- The n pieces of f from that of b on are being laid at the place `at` of a buffer that held d: k of them stand there, up to the place a.
+pub record Laying (d : List ℕ) (at : ℕ) (f : ℕ → List ℕ) (b n : ℕ) (out : List ℕ) (a k : ℕ) : Type 0 where
+  pub laid : Laid d at (cat f b k) out a
   pub within : k ≤ n
-  pub place : a ≡ at + k * w
   pub long : length out ≡ length d
-  pub room : at + n * w ≤ length d
+  pub room : at + length (cat f b n) ≤ length d
 
-pub laying-start : (d : List ℕ) (at : ℕ) (f : ℕ → List ℕ) (w n : ℕ) → Even f w 0 n → at + n * w ≤ length d → Laying d at f w n d at 0
-laying-start d at f w n e h =
+pub laying-start : (d : List ℕ) (at : ℕ) (f : ℕ → List ℕ) (b n : ℕ) → at + length (cat f b n) ≤ length d → Laying d at f b n d at 0
+laying-start d at f b n h =
     record {
-      laid = record { place = rw (cat-none f 0) (sym (add-zero at)); bytes = rw (cat-none f 0) (sym (splice-none d at)) };
-      even = e;
+      laid = record { place = rw (cat-none f b) (sym (add-zero at)); bytes = rw (cat-none f b) (sym (splice-none d at)) };
       within = omega arith;
-      place = rw (zero-mul w) (sym (add-zero at));
       long = refl;
       room = h;
     }
 
 -- the next piece has room
-pub laying-room : {d : List ℕ} {at : ℕ} {f : ℕ → List ℕ} {w n : ℕ} {out : List ℕ} {a k : ℕ} → Laying d at f w n out a k → k < n → a + w ≤ length out
-laying-room {w = w} {n = n} {k = k} g h = omega (arith, g .place, g .long, g .room, mul-le-mul-right w h, suc-mul k w)
+pub laying-room : {d : List ℕ} {at : ℕ} {f : ℕ → List ℕ} {b n : ℕ} {out : List ℕ} {a k : ℕ} → Laying d at f b n out a k → k < n → a + length (f (b + k)) ≤ length out
+laying-room {f = f} {b = b} {n = n} {k = k} g h =
+    let t = cat f (b + k + 1) (n - (k + 1)) in
+    omega (arith, g .laid .place, g .long, g .room, ap length (cat-split f b n k h), length-append (cat f b k) (f (b + k) ++ t), length-append (f (b + k)) t)
 
-pub laying-turn : {d : List ℕ} {at : ℕ} {f : ℕ → List ℕ} {w n : ℕ} {out : List ℕ} {a k : ℕ} {out′ : List ℕ} → Laying d at f w n out a k → k < n
-    → out′ ≡ splice out a (f k) → Laying d at f w n out′ (a + w) (k + 1)
-laying-turn {d} {at} {f} {w} {n} {out} {a} {k} g h e =
-    let l : length (f k) ≡ w = rw (zero-add k) at (g .even .each k h) in
-    let s : length (cat f 0 k) ≡ k * w = cat-length (record { each = λ j b. g .even .each j (omega arith) }) in
+pub laying-turn : {d : List ℕ} {at : ℕ} {f : ℕ → List ℕ} {b n : ℕ} {out : List ℕ} {a k : ℕ} {out′ : List ℕ} {a′ : ℕ} → Laying d at f b n out a k → k < n
+    → Laid out a (f (b + k)) out′ a′ → Laying d at f b n out′ a′ (k + 1)
+laying-turn {d} {at} {f} {b} {n} {out} {a} {k} g h l =
     let r = laying-room g h in
-    let c : cat f 0 (k + 1) ≡ cat f 0 k ++ f k = rw (zero-add k) at (cat-last f 0 k) in
     record {
-      laid = rw c (laid-more (f k) (omega (arith, g .place, g .long)) (g .laid) (laid-one out a w (f k) l refl e));
-      even = g .even;
+      laid = rw (cat-last f b k) (laid-more (f (b + k)) (omega (arith, g .laid .place, g .long)) (g .laid) l);
       within = omega arith;
-      place = rw (g .place) (omega (arith, suc-mul k w));
-      long = ap length e ∙ (splice-length out a (f k) (omega arith) ∙ g .long);
+      long = laid-length l r ∙ g .long;
       room = g .room;
     }
 
-pub laying-end : {d : List ℕ} {at : ℕ} {f : ℕ → List ℕ} {w n : ℕ} {out : List ℕ} {a k : ℕ} → Laying d at f w n out a k → n ≤ k → Laid d at (cat f 0 n) out a
+pub laying-end : {d : List ℕ} {at : ℕ} {f : ℕ → List ℕ} {b n : ℕ} {out : List ℕ} {a k : ℕ} → Laying d at f b n out a k → n ≤ k → Laid d at (cat f b n) out a
 laying-end {n = n} {k = k} g h = let e : n ≡ k = omega (arith, g .within) in rw e (g .laid)

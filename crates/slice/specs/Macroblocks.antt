@@ -9,15 +9,20 @@
 use mathlib.Core.Path.{_≡_, refl, sym, ap, _∙_}
 use mathlib.Core.List.{List, [], _∷_, _++_, append-nil}
 use mathlib.Core.Bool.{Bool, true, false, cond}
-use Prim.Native.Nat.{ℕ, zero, suc, _+_, _*_, _≤_, _<_}
-use native.Mathlib.Nat.{zero-add, mul-assoc, mul-le-mul-right, suc-mul, zero-mul}
+use Prim.Native.Nat.{ℕ, zero, suc, _+_, _*_, _/_, _≤_, _<_}
+use native.Mathlib.Nat.{zero-add, add-assoc, mul-assoc, div-mul-le-self, mul-le-mul-right, suc-mul, zero-mul}
 use native.Mathlib.Omega.{arith}
 use lib.ListN.{length, length-append}
 use lib.Arith.{digits-lt}
 use Rattle.nal_unit.specs.Escape.{esc, escFrom, zerosEnd, esc-append}
 use Rattle.nal_unit.specs.EscapeCode.{counted, Put, Counts, esc-stop, pieces-first, pieces-room, pieces}
-use Rattle.ycbcr_image.specs.Form.{Form, mono, planes, inPlane, blockWidth, blockHeight, blockRowBytes, blockBytes, bytesOf, mbBytes, planes-some, planes-colour}
-use Rattle.ycbcr_image.specs.Sizes.{Sequence, picWidthInMbs, frameHeightInMbs}
+use Rattle.ycbcr_image.specs.declared.BitDepth.{BitDepth}
+use Rattle.ycbcr_image.specs.declared.BitDepth.the-variants.{Depth8, Depth12}
+use Rattle.ycbcr_image.specs.declared.Kind.{Kind}
+use Rattle.ycbcr_image.specs.declared.Kind.the-variants.{Mono, Colour}
+use Rattle.ycbcr_image.specs.declared.Session.{Session}
+use Rattle.ycbcr_image.specs.Form.{formOf, subWidthC, subHeightC, Form, mono, planes, inPlane, blockWidth, blockHeight, blockRowBytes, blockBytes, bytesOf, mbBytes, planes-some, planes-colour}
+use Rattle.ycbcr_image.specs.Sizes.{Sequence, sequenceOf, picWidthInMbs, frameHeightInMbs}
 use Rattle.ycbcr_image.specs.Accepted.{Fine, mbs-most}
 use Rattle.slice.specs.declared.Strides.{Strides}
 use Rattle.slice.specs.Cat.{cat, cat-none, cat-length, rowsOf, rows-even, Even}
@@ -175,13 +180,48 @@ pub head-bytes : (i : ℕ) → length (head (headerOf 0 0) i) ≤ 4
 head-bytes zero = rw (first-head 0 refl) (omega arith)
 head-bytes (suc i) = rw (next-head (suc i) (λ e. omega arith)) (omega arith)
 
--- a macroblock fits into 580 bytes
+-- the bytes of a macroblock
+pub macroblock-size : {q : Sequence} {L : Lends} → Ready q L → (my mx : ℕ) → my < frameHeightInMbs q → mx < picWidthInMbs q
+    → length (macroblockIn q L (my * picWidthInMbs q + mx)) ≤ 4 + mbBytes (q .form)
+macroblock-size {q} {L} r my mx h k =
+    let i = my * picWidthInMbs q + mx in
+    rw (macroblock-is q L my mx k, length-append (head (headerOf 0 0) i) (samplesAt q L my mx)) (omega (arith, head-bytes i, samples-bytes r my mx h k))
+
+-- it fits into 580
 pub macroblock-most : {q : Sequence} {L : Lends} → Ready q L → (my mx : ℕ) → my < frameHeightInMbs q → mx < picWidthInMbs q
     → length (macroblockIn q L (my * picWidthInMbs q + mx)) ≤ 580
-macroblock-most {q} {L} r my mx h k =
-    let i = my * picWidthInMbs q + mx in
-    rw (macroblock-is q L my mx k, length-append (head (headerOf 0 0) i) (samplesAt q L my mx))
-    (omega (arith, head-bytes i, samples-bytes r my mx h k, r .fine .known .mb-most))
+macroblock-most r my mx h k = omega (arith, macroblock-size r my mx h k, r .fine .known .mb-most)
+
+-- as many macroblocks as a kilobyte of samples holds
+unfoldable pub atOnce : Form → ℕ
+atOnce f = 1024 / mbBytes f
+
+-- it holds one to four of them
+pub record Once (f : Form) : Type 0 where
+  pub bytes : 0 < mbBytes f
+  pub some : 1 ≤ atOnce f
+  pub few : atOnce f ≤ 4
+
+pub once : (s : Session) → Once (sequenceOf s .form)
+unfolding atOnce mbBytes bytesOf blockWidth blockHeight inPlane mono subWidthC subHeightC
+once s = go (s .kind) (s .depth)
+  where
+    go : (k : Kind) (d : BitDepth) → Once (formOf k d)
+    go Mono Depth8 = omega arith
+    go Mono Depth12 = omega arith
+    go Colour Depth8 = omega arith
+    go Colour Depth12 = omega arith
+
+-- so many of them have few bytes
+pub some-most : (s : Session) {L : Lends} → Ready (sequenceOf s) L → (my mx n : ℕ) → my < frameHeightInMbs (sequenceOf s) → mx + n ≤ picWidthInMbs (sequenceOf s)
+    → n ≤ atOnce (sequenceOf s .form) → length (cat (macroblockIn (sequenceOf s) L) (my * picWidthInMbs (sequenceOf s) + mx) n) ≤ 1040
+unfolding atOnce
+some-most s {L} r my mx n h k o =
+    let q : Sequence = sequenceOf s in
+    let b = mbBytes (q .form) in
+    let m : n * b ≤ 1024 = omega (arith, mul-le-mul-right b o, div-mul-le-self 1024 b) in
+    let a : length (cat (macroblockIn q L) (my * picWidthInMbs q + mx) n) ≤ n * (4 + b) = cat-most (macroblockIn q L) (4 + b) (my * picWidthInMbs q + mx) n (λ i l. rw (add-assoc (my * picWidthInMbs q) mx i) (macroblock-size r my (mx + i) h (omega arith))) in
+    omega (arith, once s .few)
 
 -- a row of macroblocks, and all of them
 pub row-few : {q : Sequence} {L : Lends} → Ready q L → (my : ℕ) → my < frameHeightInMbs q → length (cat (macroblockIn q L) (my * picWidthInMbs q) (picWidthInMbs q)) ≤ 593920

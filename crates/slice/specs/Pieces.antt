@@ -4,7 +4,7 @@
 --     put-laid    a piece that was laid as it is and then escaped where it stands
 -- Assumes nothing.
 use mathlib.Core.Path.{_≡_, refl, sym, ap, _∙_}
-use mathlib.Core.List.{List, [], _++_}
+use mathlib.Core.List.{List, [], _++_, append-nil}
 use Prim.Native.Nat.{ℕ, zero, suc, _+_, _-_, _*_, _≤_, _<_}
 use native.Mathlib.Nat.{add-zero, zero-add, sub-zero}
 use native.Mathlib.Numerals.{add-one}
@@ -79,6 +79,34 @@ pieces-turn {f = f} {b = b} {n = n} {k = k} g h p =
       far = omega (arith, p .place, g .far);
       escaping = turn (f (b + k)) (cat f (b + (k + 1)) (n - (k + 1))) (rw (cat-next f b k n h) at (g .escaping)) p;
     }
+
+-- m pieces at once
+pieces-split : {d : List ℕ} {at : ℕ} {f : ℕ → List ℕ} {b n : ℕ} {out : List ℕ} {a k : ℕ} (m : ℕ) → Pieces d at f b n out a k → k + m ≤ n
+    → Escaping d at (cat f b n) out a (cat f (b + k) m ++ cat f (b + (k + m)) (n - (k + m)))
+pieces-split {f = f} {b = b} {n = n} {k = k} m g h =
+    let e : n - k ≡ m + (n - (k + m)) = omega arith in
+    let i : b + (k + m) ≡ b + k + m = omega arith in
+    rw i (rw (e, cat-append f (b + k) m (n - (k + m))) at (g .escaping))
+
+pub some-room : {d : List ℕ} {at : ℕ} {f : ℕ → List ℕ} {b n : ℕ} {out : List ℕ} {a k : ℕ} (m : ℕ) → Pieces d at f b n out a k → k + m ≤ n
+    → a + length (escFrom (counted out a) (cat f (b + k) m)) ≤ length out
+some-room {f = f} {b = b} {n = n} {k = k} m g h = turn-room (cat f (b + k) m) (cat f (b + (k + m)) (n - (k + m))) (pieces-split m g h)
+
+pub some-turn : {d : List ℕ} {at : ℕ} {f : ℕ → List ℕ} {b n : ℕ} {out : List ℕ} {a k : ℕ} (m : ℕ) {out′ : List ℕ} {a′ : ℕ} → Pieces d at f b n out a k → k + m ≤ n
+    → Put out a (cat f (b + k) m) out′ a′ → Pieces d at f b n out′ a′ (k + m)
+some-turn {f = f} {b = b} {n = n} {k = k} m g h p =
+    record {
+      within = h;
+      far = omega (arith, p .place, g .far);
+      escaping = turn (cat f (b + k) m) (cat f (b + (k + m)) (n - (k + m))) (pieces-split m g h) p;
+    }
+
+-- the last ones
+pub some-end : {d : List ℕ} {at : ℕ} {f : ℕ → List ℕ} {b n : ℕ} {out : List ℕ} {a k : ℕ} (m : ℕ) {out′ : List ℕ} {a′ : ℕ} → Pieces d at f b n out a k → k + m ≡ n
+    → Put out a (cat f (b + k) m) out′ a′ → Put d at (cat f b n) out′ a′
+some-end {f = f} {b = b} {n = n} {k = k} m g h p =
+    let e : m ≡ n - k = omega arith in
+    end (turn (cat f (b + k) (n - k)) [] (rw (append-nil (cat f (b + k) (n - k))) (g .escaping)) (rw e at p))
 
 -- the same where the pieces begin with that of 0
 pub pieces-front : {d : List ℕ} {at : ℕ} {f : ℕ → List ℕ} {n : ℕ} {out : List ℕ} {a k : ℕ} {out′ : List ℕ} {a′ : ℕ} → Pieces d at f 0 n out a k → k < n

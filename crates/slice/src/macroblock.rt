@@ -171,3 +171,30 @@ pub fn macroblock(
     let a = head(out, at, my * mw + mx);
     samples(y, cb, cr, strides, s, my, mx, out, a)
 }
+
+// Lays n macroblocks of row my, the first in column mx.
+pub fn macroblocks(
+    y: &[u8],
+    cb: &[u8],
+    cr: &[u8],
+    strides: Strides,
+    s: Session,
+    my: usize,
+    mx: usize,
+    n: usize,
+    out: &mut [u8],
+    at: usize,
+) -> usize
+    requires { ⌜ Ready (sequenceOf s) (lends (now y) (now cb) (now cr) strides) ⌝ }
+    requires { ⌜ (my < frameHeightInMbs (sequenceOf s)) × (mx + n ≤ picWidthInMbs (sequenceOf s)) ⌝ }
+    requires { ⌜ at + length (cat (macroblockIn (sequenceOf s) (lends (now y) (now cb) (now cr) strides)) (my * picWidthInMbs (sequenceOf s) + mx) n) ≤ length (now out) ⌝ }
+    ensures { λ r. ⌜ Laid (now (out .entry)) at (cat (macroblockIn (sequenceOf s) (lends (now (y .entry)) (now (cb .entry)) (now (cr .entry)) strides)) (my * picWidthInMbs (sequenceOf s) + mx) n) (now (out .exit)) r ⌝ }
+{
+    let mut a = at;
+    let mut k = 0;
+    while k < n {
+        a = macroblock(y, cb, cr, strides, s, my, mx + k, out, a);
+        k += 1;
+    }
+    a
+}

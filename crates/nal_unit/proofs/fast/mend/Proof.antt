@@ -15,7 +15,7 @@ S c = c .before .before .before .before .before .before .before
 saved : (c : tie.After-copy) → let a = S c in part (c .copy .last .1 .1 .1 .0) 0 (a .args .n) ≡ part (a .args .out .now) (a .args .at) (a .args .n)
 saved c =
     let a = S c in
-    part-splice (replicate 776 0) (part (a .args .out .now) (a .args .at) (a .args .n)) 0 (a .args .n) (c .copy .ensures) (part-length (a .args .out .now) (a .args .at) (a .args .n) (a .pre .1 .1 .0)) (omega arith)
+    part-splice (replicate 1040 0) (part (a .args .out .now) (a .args .at) (a .args .n)) 0 (a .args .n) (c .copy .ensures) (part-length (a .args .out .now) (a .args .at) (a .args .n) (a .pre .1 .1 .0)) (omega arith)
 
 calm-requires : tie.Need-calm-requires
 calm-requires c κs = search needs
