@@ -1,14 +1,16 @@
 -- What a call of the writer answers, and what it leaves (paper 01, "Writer's refusals").
 --     numberOf, lengthOf      the paper's number of an answer, 0 where the call is accepted, and its length
 --     sessionAfter            the session that it leaves, where s was held: only an accepted call changes it
---     encoded-one             an answer is known by its case, its number, its length and its session
+--     caseOf, encoded-one     an answer is known by its case, its number, its length and its session
 --     answerOf, outOf         of a call that 1 to 8 refuse with r, 0 for none, and that would write w: the answer, and the output, which held d
 --     startOf, startOut       the start call: SPS, PPS and the first picture
 --     nextOf, nextOut         the next call in a session: one picture
 -- Assumes nothing.
+use mathlib.Core.Path.{_≡_, refl, ap}
 use mathlib.Core.List.{List, _++_}
 use mathlib.Core.Bool.{cond}
 use Prim.Native.Nat.{ℕ}
+use native.Mathlib.Omega.{arith}
 use lib.Dec.{eqb, leb}
 use lib.ListN.{length, drop}
 use Rattle.ycbcr_image.specs.declared.Session.{Session}
@@ -34,6 +36,23 @@ abbrev pub sessionAfter : Encoded → Session → Session
 sessionAfter (Written t n) s = t
 sessionAfter (NoRoom n) s = s
 sessionAfter (Refused r) s = s
+
+-- which of the three cases an answer is
+abbrev pub caseOf : Encoded → ℕ
+caseOf (Written s n) = 0
+caseOf (NoRoom n) = 1
+caseOf (Refused r) = 2
+
+pub encoded-one : (a b : Encoded) (s : Session) → caseOf a ≡ caseOf b → numberOf a ≡ numberOf b → lengthOf a ≡ lengthOf b → sessionAfter a s ≡ sessionAfter b s → a ≡ b
+encoded-one (Written t n) (Written u m) s c r l h = rw (l, h) refl
+encoded-one (NoRoom n) (NoRoom m) s c r l h = ap NoRoom l
+encoded-one (Refused n) (Refused m) s c r l h = ap Refused r
+encoded-one (Written t n) (NoRoom m) s c r l h = absurd (omega arith)
+encoded-one (Written t n) (Refused m) s c r l h = absurd (omega arith)
+encoded-one (NoRoom n) (Written u m) s c r l h = absurd (omega arith)
+encoded-one (NoRoom n) (Refused m) s c r l h = absurd (omega arith)
+encoded-one (Refused n) (Written u m) s c r l h = absurd (omega arith)
+encoded-one (Refused n) (NoRoom m) s c r l h = absurd (omega arith)
 
 unfoldable pub answerOf : ℕ → Session → List ℕ → ℕ → Encoded
 answerOf r s w room = cond (eqb r 0) (cond (leb (length w) room) (Written s (length w)) (NoRoom (length w))) (Refused r)
