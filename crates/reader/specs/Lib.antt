@@ -1,1 +1,3 @@
 pub mod Judge
+pub mod Heads
+pub mod Samples

@@ -1,1 +1,4 @@
-// The reader: one call, one answer, over a lent take.
+// The reader: a take's units told one by one, and a picture's visible samples written into lent planes. No payload is kept: it is read by the places of the
+// unit that holds it.
+pub mod heads;
+pub mod samples;
