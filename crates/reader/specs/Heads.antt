@@ -3,21 +3,22 @@
 --     payloadAt s o e      its payload
 -- Assumes nothing.
 use mathlib.Core.Path.{_≡_, refl, sym, ap, _∙_}
-use mathlib.Core.List.{List, [], _∷_}
+use mathlib.Core.List.{List, [], _∷_, append-nil}
 use mathlib.Core.Bool.{Bool, true, false, _&&_, and-false}
 use Prim.Native.Nat.{ℕ, zero, suc, _+_, _-_, _*_, _≤_, _<_}
 use native.Mathlib.Nat.{zero-add, mul-le-mul, mul-le-mul-right}
 use native.Mathlib.Numerals.{add-one}
 use native.Mathlib.Omega.{arith}
 use lib.Dec.{eqb}
-use lib.ListN.{length, drop, getD, length-drop, drop-of-length-le}
+use lib.ListN.{length, take, drop, getD, length-drop, drop-of-length-le}
 use borrow.Author.Tests.{eq-eqb, ne-eqb}
-use Rattle.lists.specs.Part.{part, drop-step}
+use Rattle.lists.specs.Part.{part, part-all, splice-part, drop-step}
 use Rattle.lists.specs.Stands.{begins, stands}
 use Rattle.lists.specs.Test.{allBelow, either}
 use Rattle.nal_unit.specs.Unescape.{un}
+use Rattle.nal_unit.specs.ListsCode.{splice-front}
 use Rattle.nal_unit.specs.Kept.{kept}
-use Rattle.nal_unit.specs.Taking.{Passed, Stands, pass-none, pass-more, stands-pass, stands-start, stands-room, stands-byte}
+use Rattle.nal_unit.specs.Taking.{Passed, Took, Stands, stands-took, pass-none, pass-more, stands-pass, stands-start, stands-room, stands-byte}
 use Rattle.slice.specs.Header.{headerOf, header-is}
 use Rattle.slice.specs.Formed.{headStands, right}
 use Rattle.slice.specs.Picture.{mbsIn, pictureLength}
@@ -184,3 +185,27 @@ pub right-all : {q : Sequence} {h w size : ℕ} {s : List ℕ} {o e : ℕ} {b c 
     → c ≡ right (headerOf 0 0) (mbBytes (q .form)) (mbsIn q) (payloadAt s o e)
 unfolding right stands
 right-all y u f z g = g ∙ rw (header-is, ← unit-stands u .left, y .high, y .wide, y .bytes) (rw (sym f ∙ z) refl)
+
+-- ---- a payload of few bytes, taken whole into a buffer
+
+pub small-length : (s : List ℕ) (o e : ℕ) {n : ℕ} → n ≡ length (un (drop 1 (part s o (e - o)))) → n ≡ length (payloadAt s o e)
+unfolding payloadAt
+small-length s o e f = f
+
+pub small-kept : {s : List ℕ} {o e n : ℕ} → UnitAt s o e → n ≡ length (payloadAt s o e) → n ≤ length (kept s (o + 1) e)
+small-kept {n = n} u f = stands-room n (unit-stands u) (omega (arith, f))
+
+pub small-took : {s : List ℕ} {o e n : ℕ} {d d′ : List ℕ} {r : ℕ} → UnitAt s o e → n ≡ length (payloadAt s o e) → n ≤ length d → Took s (o + 1) e n d 0 d′ r → take n d′ ≡ payloadAt s o e
+unfolding part
+small-took {s} {o} {e} {n} {d} u f l t =
+    let X = payloadAt s o e in
+    let a = stands-took (unit-stands u) t in
+    rw (a, part-all X n (sym f), f) (splice-part d 0 X (omega (arith, f)))
+
+-- the same where the buffer has no byte more
+pub small-whole : {s : List ℕ} {o e n : ℕ} {d d′ : List ℕ} {r : ℕ} → UnitAt s o e → n ≡ length (payloadAt s o e) → length d ≡ n → Took s (o + 1) e n d 0 d′ r → d′ ≡ payloadAt s o e
+small-whole {s} {o} {e} {n} {d} u f l t =
+    let X = payloadAt s o e in
+    let k : length d ≤ length X = omega (arith, f) in
+    let z : drop (length X) d ≡ [] = drop-of-length-le d k in
+    stands-took (unit-stands u) t ∙ rw (part-all X n (sym f), splice-front d X, z) (append-nil X)

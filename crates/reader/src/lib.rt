@@ -2,3 +2,4 @@
 // unit that holds it.
 pub mod heads;
 pub mod samples;
+pub mod sets;
