@@ -4,12 +4,13 @@
 --     Word                 what is answered about a unit: an SPS, a PPS, a picture with its visible samples stored tight, or a refusal
 --     judge room h u       the answer, what is held then, and whether the call keeps its place; room p is the length of the lent plane p
 -- Assumes nothing.
+use mathlib.Core.Path.{_≡_, refl}
 use mathlib.Core.List.{List, [], _∷_}
 use mathlib.Core.Bool.{Bool, true, false, cond, not, _&&_, _||_}
 use mathlib.Core.Option.{Option, none, some}
 use Prim.Native.Nat.{ℕ}
 use lib.Dec.{leb, ltb, eqb}
-use lib.ListN.{length, drop}
+use lib.ListN.{length}
 use Rattle.lists.specs.Test.{same}
 use Rattle.nal_unit.specs.Unescape.{un, fault}
 use Rattle.nal_unit.specs.Calls.{Verdict}
@@ -19,8 +20,13 @@ use Rattle.parameter_sets.specs.Read.{readSps}
 use Rattle.slice.specs.Header.{headerOf}
 use Rattle.slice.specs.Formed.{right}
 use Rattle.slice.specs.Picture.{mbsIn, pictureLength, samplesIn}
-use Rattle.ycbcr_image.specs.Form.{Form, mbBytes}
-use Rattle.ycbcr_image.specs.Sizes.{Sequence, tightLength}
+use Rattle.ycbcr_image.specs.declared.BitDepth.{BitDepth}
+use Rattle.ycbcr_image.specs.declared.BitDepth.the-variants.{Depth8, Depth12}
+use Rattle.ycbcr_image.specs.declared.Kind.{Kind}
+use Rattle.ycbcr_image.specs.declared.Kind.the-variants.{Mono, Colour}
+use Rattle.ycbcr_image.specs.declared.Session.{Session}
+use Rattle.ycbcr_image.specs.Form.{formOf, mbBytes}
+use Rattle.ycbcr_image.specs.Sizes.{Sequence, sequenceOf, tightLength}
 use Rattle.ycbcr_image.specs.Refusals.{accepted, sessionBad}
 
 pub record Held : Type 0 where
@@ -46,6 +52,17 @@ pub data Word : Type 0 where
 -- a size and kind that an accepted SPS gives
 unfoldable pub possible : Sequence → Bool
 possible q = accepted q && (leb (q .form .chroma) 1 && (eqb (q .form .depth) 8 || eqb (q .form .depth) 12))
+
+-- an accepted session is a possible state
+pub session-possible : (s : Session) → accepted (sequenceOf s) ≡ true → possible (sequenceOf s) ≡ true
+unfolding possible
+session-possible s t = rw t (go (s .kind) (s .depth))
+  where
+    go : (k : Kind) (d : BitDepth) → (leb (formOf k d .chroma) 1 && (eqb (formOf k d .depth) 8 || eqb (formOf k d .depth) 12)) ≡ true
+    go Mono Depth8 = refl
+    go Mono Depth12 = refl
+    go Colour Depth8 = refl
+    go Colour Depth12 = refl
 
 -- a state whose held size or kind no accepted SPS gives counts as holding nothing
 unfoldable pub counted : Held → Held
@@ -74,11 +91,15 @@ short room q = ltb (room 0) (tightLength q 0) || (ltb (room 1) (tightLength q 1)
 abbrev pub samplesOf : Sequence → List ℕ → Samples
 samplesOf q X = record { y = samplesIn q 0 X; cb = samplesIn q 1 X; cr = samplesIn q 2 X }
 
+-- 18, of a picture of the size q with a payload X that is not shorter
+unfoldable pub formless : Sequence → List ℕ → Bool
+formless q X = ltb (pictureLength q) (length X) || not (right (headerOf 0 0) (mbBytes (q .form)) (mbsIn q) X)
+
 -- 17, 18 and 19, of a picture of the size q with the payload X; only 19 keeps the place
 unfoldable pub pictureVerdict : (ℕ → ℕ) → Held → Sequence → List ℕ → Verdict Held Word
 pictureVerdict room h q X =
     cond (ltb (length X) (pictureLength q)) (keep h (refused 17))
-    (cond (ltb (pictureLength q) (length X) || not (right (headerOf 0 0) (mbBytes (q .form)) (mbsIn q) X)) (keep h (refused 18))
+    (cond (formless q X) (keep h (refused 18))
     (cond (short room q) (record { word = refused 19; held = h; stay = true })
     (keep h (picture (samplesOf q X)))))
 

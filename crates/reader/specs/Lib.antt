@@ -1,3 +1,5 @@
 pub mod Judge
 pub mod Heads
 pub mod Samples
+pub mod Read
+pub mod ReadCode

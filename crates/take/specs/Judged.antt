@@ -1,44 +1,26 @@
 -- What the reader answers about the units that the writer writes: for one accepted call, exactly what was written. Assumes nothing.
-use mathlib.Core.Path.{_≡_, refl, sym, ap, _∙_}
-use mathlib.Core.List.{List, [], _∷_, _++_}
-use mathlib.Core.Bool.{Bool, true, false, cond, not, _&&_, _||_}
-use mathlib.Core.Option.{Option, none, some}
-use Prim.Native.Nat.{ℕ, _+_, _-_, _≤_, _<_}
+use mathlib.Core.Path.{_≡_, refl, _∙_}
+use mathlib.Core.List.{List, _∷_}
+use mathlib.Core.Bool.{Bool, true, false}
+use mathlib.Core.Option.{some}
+use Prim.Native.Nat.{ℕ, _-_, _≤_, _<_}
 use native.Mathlib.Omega.{arith}
-use lib.Dec.{leb, ltb, eqb}
 use lib.ListN.{length}
 use borrow.Author.Tests.{le-ltb}
-use Rattle.lists.specs.Test.{same, same-refl}
+use Rattle.lists.specs.Test.{same-refl}
 use Rattle.nal_unit.specs.Escape.{esc}
-use Rattle.nal_unit.specs.Unescape.{un, un-esc, fault}
+use Rattle.nal_unit.specs.Unescape.{un-esc}
 use Rattle.nal_unit.specs.Units.{fault-unit}
-use Rattle.nal_unit.specs.Calls.{Verdict}
 use Rattle.parameter_sets.specs.Sps.{spsPayload, baseLevel}
 use Rattle.parameter_sets.specs.Pps.{ppsPayload}
-use Rattle.parameter_sets.specs.Read.{readSps, sps-whole}
+use Rattle.parameter_sets.specs.Read.{sps-whole}
 use Rattle.slice.specs.Picture as P
-use Rattle.ycbcr_image.specs.declared.BitDepth.{BitDepth}
-use Rattle.ycbcr_image.specs.declared.BitDepth.the-variants.{Depth8, Depth12}
-use Rattle.ycbcr_image.specs.declared.Kind.{Kind}
-use Rattle.ycbcr_image.specs.declared.Kind.the-variants.{Mono, Colour}
 use Rattle.ycbcr_image.specs.declared.Session.{Session}
 use Rattle.ycbcr_image.specs.Accepted.{Fine}
-use Rattle.ycbcr_image.specs.Form.{formOf}
 use Rattle.ycbcr_image.specs.Sizes.{Sequence, sequenceOf, tightLength}
 use Rattle.ycbcr_image.specs.Refusals.{accepted}
 use Rattle.encoder.specs.Units.{spsUnit, ppsUnit, pictureUnit}
-use Rattle.reader.specs.Judge.{Held, nothing, Samples, Word, sps, pps, picture, refused, possible, counted, keep, spsVerdict, ppsVerdict, short, samplesOf, pictureVerdict, heldVerdict, unitVerdict, judge}
-
--- an accepted session is a possible state
-pub session-possible : (s : Session) → accepted (sequenceOf s) ≡ true → possible (sequenceOf s) ≡ true
-unfolding possible
-session-possible s t = rw t (go (s .kind) (s .depth))
-  where
-    go : (k : Kind) (d : BitDepth) → (leb (formOf k d .chroma) 1 && (eqb (formOf k d .depth) 8 || eqb (formOf k d .depth) 12)) ≡ true
-    go Mono Depth8 = refl
-    go Mono Depth12 = refl
-    go Colour Depth8 = refl
-    go Colour Depth12 = refl
+use Rattle.reader.specs.Judge.{Held, nothing, Samples, sps, pps, picture, possible, counted, keep, spsVerdict, ppsVerdict, short, formless, pictureVerdict, heldVerdict, unitVerdict, judge}
 
 -- what the take's sets leave held
 abbrev pub having : Sequence → Bool → Held
@@ -95,7 +77,7 @@ module _ (room : ℕ → ℕ) where
   not-short q n = rw (le-ltb (room 0) (tightLength q 0) (n .y), le-ltb (room 1) (tightLength q 1) (n .cb), le-ltb (room 2) (tightLength q 2) (n .cr)) refl
 
   accepted-picture : (q : Sequence) (L : P.Lends) → Fine q → P.Whole q L → Enough q → pictureVerdict room (having q true) q (P.pictureOf q L) ≡ keep (having q true) (picture (visibleOf q L))
-  unfolding pictureVerdict
+  unfolding pictureVerdict formless
   accepted-picture q L g w n =
       let l = P.picture-length q L g w in
       rw (le-ltb (length (P.pictureOf q L)) (P.pictureLength q) (omega arith), le-ltb (P.pictureLength q) (length (P.pictureOf q L)) (omega arith), P.picture-right q L g w, not-short q n)

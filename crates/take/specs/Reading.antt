@@ -1,34 +1,29 @@
 -- Reading a take: with both sets held no unit changes them, the units of a take are met whole, and each is answered with its word. Assumes nothing.
-use mathlib.Core.Path.{_≡_, refl, sym, ap, _∙_}
-use mathlib.Core.List.{List, [], _∷_, _++_}
-use mathlib.Core.Bool.{Bool, true, false, cond, not, _&&_, _||_}
+use mathlib.Core.Path.{_≡_, refl, ap, _∙_}
+use mathlib.Core.List.{List, [], _∷_}
+use mathlib.Core.Bool.{Bool, true, false, cond}
 use mathlib.Core.Option.{Option, none, some}
-use Prim.Native.Nat.{ℕ, zero, suc, _+_, _≤_, _<_}
-use native.Mathlib.Omega.{arith}
+use Prim.Native.Nat.{ℕ, _+_}
 use lib.Dec.{ltb, eqb}
 use lib.ListN.{length}
 use Rattle.lists.specs.Test.{same}
 use Rattle.nal_unit.specs.Unescape.{un, fault}
 use Rattle.nal_unit.specs.Walk.{Whole}
 use Rattle.nal_unit.specs.Calls.{Verdict, Say, said, Full}
-use Rattle.nal_unit.specs.Frame.{Goes, Wholes, says, heldBy, placeBy, goes-full, held-full}
+use Rattle.nal_unit.specs.Frame.{Goes, Wholes, says, heldBy, goes-full, held-full}
 use Rattle.parameter_sets.specs.Sps.{baseLevel}
 use Rattle.parameter_sets.specs.Pps.{ppsPayload}
 use Rattle.parameter_sets.specs.Read.{readSps}
 use Rattle.slice.specs.Picture as P
 use Rattle.ycbcr_image.specs.declared.Session.{Session}
-use Rattle.ycbcr_image.specs.Sizes.{Sequence, sequenceOf}
-use Rattle.ycbcr_image.specs.Refusals.{sessionBad, sessionOf, ofPicture, accepted}
-use Rattle.ycbcr_image.specs.Passed.{Passed}
+use Rattle.ycbcr_image.specs.Sizes.{Sequence}
+use Rattle.ycbcr_image.specs.Refusals.{sessionBad, sessionOf, accepted}
 use Rattle.encoder.specs.Units.{spsUnit, ppsUnit, pictureUnit}
 use Rattle.encoder.specs.Shot.{Shot, imageOf, lendsOf, sequenceIn, shot-whole}
 use Rattle.reader.specs.Judge as J
-use Rattle.slice.specs.Header.{headerOf}
-use Rattle.slice.specs.Formed.{right}
-use Rattle.ycbcr_image.specs.Form.{mbBytes}
-use Rattle.reader.specs.Judge.{Held, nothing, Samples, Word, sps, pps, picture, refused, possible, counted, keep, spsVerdict, ppsVerdict, short, pictureVerdict, heldVerdict, unitVerdict, judge}
+use Rattle.reader.specs.Judge.{Held, nothing, Word, sps, picture, refused, possible, session-possible, keep, spsVerdict, ppsVerdict, pictureVerdict, heldVerdict, unitVerdict, judge}
 use Rattle.take.specs.Last.{sps-unit, pps-unit, picture-unit}
-use Rattle.take.specs.Judged.{session-possible, having, counted-is, judged-sps, judged-pps, judged-picture, Enough, not-short, visibleOf}
+use Rattle.take.specs.Judged.{having, counted-is, judged-sps, judged-pps, judged-picture, Enough, not-short}
 use Rattle.take.specs.Take.{Take, Frames, frames, sizeOf, unitsOf, wordsOf, pictureUnits, pictureWords, samplesOf, Framed, first-framed}
 
 -- words in order, each with the offset of its unit, where the first unit's frame begins at p
@@ -67,7 +62,7 @@ module _ (room : ℕ → ℕ) (q : Sequence) (e : possible q ≡ true) (n : Enou
   keeps-picture X =
       rw (not-short room q n)
       (keeps-if (ltb (length X) (P.pictureLength q)) (kept (refused 17))
-      (keeps-if (ltb (P.pictureLength q) (length X) || not (right (headerOf 0 0) (mbBytes (q .form)) (P.mbsIn q) X)) (kept (refused 18)) (kept (picture (J.samplesOf q X)))))
+      (keeps-if (J.formless q X) (kept (refused 18)) (kept (picture (J.samplesOf q X)))))
 
   keeps-unit : (x : ℕ) (X : List ℕ) → Keeps (unitVerdict room h x X)
   unfolding unitVerdict heldVerdict

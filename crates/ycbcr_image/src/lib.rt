@@ -294,7 +294,7 @@ fn height_bad(s: Session) -> bool
 }
 
 // 6: width, height, colour or depth is not the session's.
-fn session_bad(held: Session, s: Session) -> bool
+pub fn session_bad(held: Session, s: Session) -> bool
     ensures { λ r. ⌜ r ≡ sessionBad (sequenceOf held) (sequenceOf s) ⌝ }
 {
     let kind = s.kind;
