@@ -3,3 +3,4 @@ pub mod Heads
 pub mod Samples
 pub mod Read
 pub mod ReadCode
+pub mod Counted

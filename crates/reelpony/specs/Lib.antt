@@ -1,3 +1,5 @@
 pub mod Numbers
 pub mod Pieces
 pub mod Code
+pub mod Reading
+pub mod ReadingCode

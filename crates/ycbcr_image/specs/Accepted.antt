@@ -79,16 +79,16 @@ pub record Fine (q : Sequence) : Type 0 where
   pub present : (p : ℕ) → p < planes (q .form) → Present q p
 
 -- the rows 1, 3, 4 and 5, read as facts
-record Sound (q : Sequence) : Type 0 where
-  width-low : 1 ≤ q .width
-  width-high : q .width ≤ 16384
-  height-low : 1 ≤ q .height
-  height-high : q .height ≤ 16384
-  four : mono (q .form) ≡ false → q .form .depth ≡ 12 → q .width % 4 ≡ 0
-  odd : (mono (q .form) && eqb (q .form .depth) 8) ≡ false → q .width % 2 ≡ 0
-  high : mono (q .form) ≡ false → q .height % 2 ≡ 0
+pub record Sound (q : Sequence) : Type 0 where
+  pub width-low : 1 ≤ q .width
+  pub width-high : q .width ≤ 16384
+  pub height-low : 1 ≤ q .height
+  pub height-high : q .height ≤ 16384
+  pub four : mono (q .form) ≡ false → q .form .depth ≡ 12 → q .width % 4 ≡ 0
+  pub odd : (mono (q .form) && eqb (q .form .depth) 8) ≡ false → q .width % 2 ≡ 0
+  pub high : mono (q .form) ≡ false → q .height % 2 ≡ 0
 
-sound : (q : Sequence) → accepted q ≡ true → Sound q
+pub sound : (q : Sequence) → accepted q ≡ true → Sound q
 unfolding accepted sizeBad fourBad oddBad heightBad
 sound q t =
     let all : (sizeBad q || (fourBad q || (oddBad q || heightBad q))) ≡ false = not-true _ t in
