@@ -10,12 +10,14 @@
 --     kept-length       what is kept and what was inserted are the stretch
 --     kept-append       two stretches side by side; count-append the same of the count
 --     kept-calm         a stretch without inserted bytes is kept as it stands; calm-part, calm-join: inside such a stretch, and of two
+--     Flat s p e        no place from p up to e has an inserted byte; flat-none, flat-more by the last place, flat-join; flat-count: none is counted
 -- Assumes nothing.
 use mathlib.Core.Path.{_≡_, refl, sym, ap, _∙_}
 use mathlib.Core.List.{List, [], _∷_, _++_}
 use mathlib.Core.Bool.{Bool, true, false, cond, _&&_, and-true, and-false, and-assoc, and-eq-true-iff}
 use Prim.Native.Nat.{ℕ, zero, suc, _+_, _-_, _≤_, _<_}
 use native.Mathlib.Numerals.{add-one}
+use native.Mathlib.Nat.{zero-add}
 use native.Mathlib.Omega.{arith}
 use lib.Dec.{leb, eqb, leb·suc-suc}
 use lib.ListN.{length, drop, getD, length-append}
@@ -204,3 +206,25 @@ kept-calm s p e h = all (getD s (p - 2) 0) (getD s (p - 1) 0) (part s p (e - p))
             → cond t (keep b x xs) (x ∷ keep b x xs) ≡ x ∷ xs
         by true h ih = absurd (omega arith)
         by false h ih = ap (λ (l : List ℕ). x ∷ l) (ih h)
+
+-- a stretch without inserted bytes by its places, as a search that goes on byte by byte finds it
+pub record Flat (s : List ℕ) (p e : ℕ) : Type 0 where
+  pub none : (q : ℕ) → p ≤ q → q < e → insAt s q ≡ false
+
+pub flat-none : (s : List ℕ) (p e : ℕ) → e ≤ p → Flat s p e
+flat-none s p e h = record { none = λ q k l. absurd (omega arith) }
+
+pub flat-more : {s : List ℕ} {p e : ℕ} (e′ : ℕ) → Flat s p e → insAt s e ≡ false → e′ ≡ e + 1 → Flat s p e′
+flat-more {s} {p} {e} e′ g h i =
+    record { none = λ q k l. either e q (λ m. let z : q ≡ e = omega arith in rw z h) (λ m. g .none q k m) }
+
+-- two of them that meet
+pub flat-join : {s : List ℕ} {p m e : ℕ} → Flat s p m → Flat s m e → Flat s p e
+flat-join {m = m} g h = record { none = λ q k l. either m q (λ i. h .none q i l) (λ i. g .none q k i) }
+
+pub flat-count : {s : List ℕ} {p e : ℕ} → Flat s p e → 1 ≤ p → (m : ℕ) → m ≤ e → m ≤ length s → insCount s p m ≡ 0
+flat-count {s} {p} {e} g i m h l = by (m - p) p i (omega arith) (omega arith)
+  where
+    by : (n q : ℕ) → 1 ≤ q → p ≤ q → m ≤ q + n → insCount s q m ≡ 0
+    by zero q i k f = count-end s q m (omega arith)
+    by (suc n) q i k f = either m q (λ j. count-end s q m j) (λ j. rw (count-step s q m i j l, g .none q k (omega arith), zero-add (insCount s (q + 1) m)) (by n (q + 1) (omega arith) (omega arith) (omega arith)))
