@@ -9,7 +9,8 @@
 --     kept-more, kept-plain, kept-end    a stretch by its first byte; count-step, count-end the same of the count
 --     kept-length       what is kept and what was inserted are the stretch
 --     kept-append       two stretches side by side; count-append the same of the count
---     kept-calm         a stretch without inserted bytes is kept as it stands; calm-part, calm-join: inside such a stretch, and of two
+--     kept-calm         a stretch without inserted bytes is kept as it stands; calm-part, calm-from, calm-join: inside such a stretch, behind
+--                       a place of it, and of two
 --     Flat s p e        no place from p up to e has an inserted byte; flat-none, flat-more by the last place, flat-join; flat-count: none is counted
 -- Assumes nothing.
 use mathlib.Core.Path.{_≡_, refl, sym, ap, _∙_}
@@ -192,6 +193,26 @@ calm-part s p e a b i h k l m z =
 pub calm-join : (s : List ℕ) (p e a b : ℕ) → 1 ≤ p → p ≤ a → a ≤ b → b ≤ e → e ≤ length s → insCount s p b ≡ 0 → insCount s a e ≡ 0 → insCount s p e ≡ 0
 calm-join s p e a b i h k l m y z =
     omega (arith, count-append s p a e i h (omega arith) m, count-append s p a b i h k (omega arith))
+
+-- what is behind its first byte (at the place 0 the two bytes before that are the byte itself, which then is no inserted one)
+calm-on : (s : List ℕ) (p e : ℕ) → p < e → e ≤ length s → insCount s p e ≡ 0 → insCount s (p + 1) e ≡ 0
+unfolding insCount insIn
+calm-on s zero e k l z =
+    let f : e - 0 ≡ e - 1 + 1 = omega arith in
+    more (ins (getD s 0 0) (getD s 0 0) (getD s 0 0)) (insIn (getD s 0 0) (getD s 0 0) (part s 1 (e - 1))) (rw (f, part-cons s 0 (e - 1) (omega arith)) at z)
+  where
+    more : (b : Bool) (n : ℕ) → cond b (suc n) n ≡ 0 → n ≡ 0
+    more true n z = absurd (omega arith)
+    more false n z = z
+calm-on s (suc p) e k l z = omega (arith, count-step s (suc p) e (omega arith) k l)
+
+-- what is behind a place of it, wherever it begins
+pub calm-from : (s : List ℕ) (c p e : ℕ) → c ≤ p → e ≤ length s → insCount s c e ≡ 0 → insCount s p e ≡ 0
+calm-from s c p e h l z = by (p - c) c (omega arith) z
+  where
+    by : (n q : ℕ) → q + n ≡ p → insCount s q e ≡ 0 → insCount s p e ≡ 0
+    by zero q f z = let g : p ≡ q = omega arith in rw g z
+    by (suc n) q f z = either e q (λ k. count-end s p e (omega arith)) (λ k. by n (q + 1) (omega arith) (calm-on s q e k l z))
 
 -- it is kept as it stands
 pub kept-calm : (s : List ℕ) (p e : ℕ) → insCount s p e ≡ 0 → kept s p e ≡ part s p (e - p)
