@@ -9,13 +9,16 @@
 --     kept-more, kept-plain, kept-end    a stretch by its first byte; count-step, count-end the same of the count
 --     kept-length       what is kept and what was inserted are the stretch
 --     kept-append       two stretches side by side; count-append the same of the count
---     kept-calm         a stretch without inserted bytes is kept as it stands; calm-part, calm-join: inside such a stretch, and of two
+--     kept-calm         a stretch without inserted bytes is kept as it stands; calm-part, calm-from, calm-join: inside such a stretch, behind
+--                       a place of it, and of two
+--     Flat s p e        no place from p up to e has an inserted byte; flat-none, flat-more by the last place, flat-join; flat-count: none is counted
 -- Assumes nothing.
 use mathlib.Core.Path.{_≡_, refl, sym, ap, _∙_}
 use mathlib.Core.List.{List, [], _∷_, _++_}
 use mathlib.Core.Bool.{Bool, true, false, cond, _&&_, and-true, and-false, and-assoc, and-eq-true-iff}
 use Prim.Native.Nat.{ℕ, zero, suc, _+_, _-_, _≤_, _<_}
 use native.Mathlib.Numerals.{add-one}
+use native.Mathlib.Nat.{zero-add}
 use native.Mathlib.Omega.{arith}
 use lib.Dec.{leb, eqb, leb·suc-suc}
 use lib.ListN.{length, drop, getD, length-append}
@@ -191,6 +194,26 @@ pub calm-join : (s : List ℕ) (p e a b : ℕ) → 1 ≤ p → p ≤ a → a ≤
 calm-join s p e a b i h k l m y z =
     omega (arith, count-append s p a e i h (omega arith) m, count-append s p a b i h k (omega arith))
 
+-- what is behind its first byte (at the place 0 the two bytes before that are the byte itself, which then is no inserted one)
+calm-on : (s : List ℕ) (p e : ℕ) → p < e → e ≤ length s → insCount s p e ≡ 0 → insCount s (p + 1) e ≡ 0
+unfolding insCount insIn
+calm-on s zero e k l z =
+    let f : e - 0 ≡ e - 1 + 1 = omega arith in
+    more (ins (getD s 0 0) (getD s 0 0) (getD s 0 0)) (insIn (getD s 0 0) (getD s 0 0) (part s 1 (e - 1))) (rw (f, part-cons s 0 (e - 1) (omega arith)) at z)
+  where
+    more : (b : Bool) (n : ℕ) → cond b (suc n) n ≡ 0 → n ≡ 0
+    more true n z = absurd (omega arith)
+    more false n z = z
+calm-on s (suc p) e k l z = omega (arith, count-step s (suc p) e (omega arith) k l)
+
+-- what is behind a place of it, wherever it begins
+pub calm-from : (s : List ℕ) (c p e : ℕ) → c ≤ p → e ≤ length s → insCount s c e ≡ 0 → insCount s p e ≡ 0
+calm-from s c p e h l z = by (p - c) c (omega arith) z
+  where
+    by : (n q : ℕ) → q + n ≡ p → insCount s q e ≡ 0 → insCount s p e ≡ 0
+    by zero q f z = let g : p ≡ q = omega arith in rw g z
+    by (suc n) q f z = either e q (λ k. count-end s p e (omega arith)) (λ k. by n (q + 1) (omega arith) (calm-on s q e k l z))
+
 -- it is kept as it stands
 pub kept-calm : (s : List ℕ) (p e : ℕ) → insCount s p e ≡ 0 → kept s p e ≡ part s p (e - p)
 unfolding kept insCount keep insIn
@@ -204,3 +227,25 @@ kept-calm s p e h = all (getD s (p - 2) 0) (getD s (p - 1) 0) (part s p (e - p))
             → cond t (keep b x xs) (x ∷ keep b x xs) ≡ x ∷ xs
         by true h ih = absurd (omega arith)
         by false h ih = ap (λ (l : List ℕ). x ∷ l) (ih h)
+
+-- a stretch without inserted bytes by its places, as a search that goes on byte by byte finds it
+pub record Flat (s : List ℕ) (p e : ℕ) : Type 0 where
+  pub none : (q : ℕ) → p ≤ q → q < e → insAt s q ≡ false
+
+pub flat-none : (s : List ℕ) (p e : ℕ) → e ≤ p → Flat s p e
+flat-none s p e h = record { none = λ q k l. absurd (omega arith) }
+
+pub flat-more : {s : List ℕ} {p e : ℕ} (e′ : ℕ) → Flat s p e → insAt s e ≡ false → e′ ≡ e + 1 → Flat s p e′
+flat-more {s} {p} {e} e′ g h i =
+    record { none = λ q k l. either e q (λ m. let z : q ≡ e = omega arith in rw z h) (λ m. g .none q k m) }
+
+-- two of them that meet
+pub flat-join : {s : List ℕ} {p m e : ℕ} → Flat s p m → Flat s m e → Flat s p e
+flat-join {m = m} g h = record { none = λ q k l. either m q (λ i. h .none q i l) (λ i. g .none q k i) }
+
+pub flat-count : {s : List ℕ} {p e : ℕ} → Flat s p e → 1 ≤ p → (m : ℕ) → m ≤ e → m ≤ length s → insCount s p m ≡ 0
+flat-count {s} {p} {e} g i m h l = by (m - p) p i (omega arith) (omega arith)
+  where
+    by : (n q : ℕ) → 1 ≤ q → p ≤ q → m ≤ q + n → insCount s q m ≡ 0
+    by zero q i k f = count-end s q m (omega arith)
+    by (suc n) q i k f = either m q (λ j. count-end s q m j) (λ j. rw (count-step s q m i j l, g .none q k (omega arith), zero-add (insCount s (q + 1) m)) (by n (q + 1) (omega arith) (omega arith) (omega arith)))

@@ -4,7 +4,8 @@
 --     next-first           the next start code is not before the first fault
 --     unitOf s             the unit whose bytes begin at the front of s, less its trailing zeros
 --     unit-bad             that unit has a fault exactly where the first fault of s and two bytes more are in it
---     unitScan s from      the unit at a place of a slice: where the next start code or the end is, where the unit stops, whether it has a fault
+--     Sought s from r      what the search for the first fault finds, inserted bytes on the way counted in
+--     Scanned s from r     the unit at a place of a slice: where the next start code or the end is, where the unit stops, whether it has a fault, from where on it is calm
 -- Assumes nothing.
 use mathlib.Core.Path.{_≡_, refl, sym, ap, _∙_}
 use mathlib.Core.List.{List, [], _∷_, _++_}
@@ -25,6 +26,8 @@ use Rattle.nal_unit.specs.StartCode.{code, next, code-is, code-first, ne
 use Rattle.nal_unit.specs.Scan.{code-at, next-step, trim-zero, trim-last, fault-at}
 use Rattle.nal_unit.specs.Unescape.{over3, faultHere, fault, fault-nil, fault-past}
 use Rattle.nal_unit.specs.Walk.{blank, trim, trimmed}
+use Rattle.nal_unit.specs.Kept.{ins, insAt, insCount, count-end, Flat, flat-none, flat-more, flat-join, flat-count}
+use Rattle.nal_unit.specs.declared.scan.Found.{Found}
 use Rattle.nal_unit.specs.declared.scan.UnitScan.{UnitScan}
 
 -- Tests on bytes
@@ -85,19 +88,25 @@ fault-test a b c d m h e =
     ∙ ap (λ (p : Bool). eqb a 0 && (eqb b 0 && (p && eqb m 0))) (high-zero c h)
     ∙ ap (λ (p : Bool). eqb a 0 && (eqb b 0 && p)) (rw e (third c d))
 
--- where two bytes are zero and the third is 03 or less, a fault may stand; elsewhere none does
+-- where two bytes are zero and the third is 03 or less, a fault or an inserted byte may stand; elsewhere none does
 pub low-none : (s : List ℕ) (i : ℕ) → i + 3 ≤ length s → getD s (i + 2) 0 < 256
-    → eqb (bitOr (bitOr (getD s i 0) (getD s (i + 1) 0)) (bitAnd (getD s (i + 2) 0) 252)) 0 ≡ false → faultHere (drop i s) ≡ false
+    → eqb (bitOr (bitOr (getD s i 0) (getD s (i + 1) 0)) (bitAnd (getD s (i + 2) 0) 252)) 0 ≡ false → (faultHere (drop i s) ≡ false) × (insAt s (i + 2) ≡ false)
+unfolding insAt ins
 low-none s i h b e =
     let x = getD s i 0 in
     let y = getD s (i + 1) 0 in
     let z = getD s (i + 2) 0 in
     let w = getD s (i + 3) 0 in
+    let two : i + 2 - 2 ≡ i = omega arith in
+    let one : i + 2 - 1 ≡ i + 1 = omega arith in
     let l : (eqb x 0 && (eqb y 0 && leb z 3)) ≡ false = sym (or-three x y (bitAnd z 252) ∙ ap (λ (p : Bool). eqb x 0 && (eqb y 0 && p)) (high-zero z b)) ∙ e in
-    fault-at s i h ∙ by (eqb x 0) (eqb y 0) (leb z 3) (leb z 2 || (eqb z 3 && leb 4 w)) (none z w) l
+    (fault-at s i h ∙ by (eqb x 0) (eqb y 0) (leb z 3) (leb z 2 || (eqb z 3 && leb 4 w)) (none z w) l, rw (two, one) (by (eqb x 0) (eqb y 0) (leb z 3) (eqb z 3) (other z) l))
   where
     none : (c d : ℕ) → leb c 3 ≡ false → (leb c 2 || (eqb c 3 && leb 4 d)) ≡ false
     none c d f = let l = leb-false c 3 f in rw (lt-leb c 2 (omega arith), ne-eqb c 3 (λ e. omega arith)) refl
+
+    other : (c : ℕ) → leb c 3 ≡ false → eqb c 3 ≡ false
+    other c f = let l = leb-false c 3 f in ne-eqb c 3 (λ e. omega arith)
 
     by : (p q r k : Bool) → (r ≡ false → k ≡ false) → (p && (q && r)) ≡ false → (p && (q && k)) ≡ false
     by false q r k f e = refl
@@ -163,10 +172,7 @@ fault-place (x ∷ t) = by (faultHere (x ∷ t)) refl (fault-place t)
 
 -- By the places of a slice, as a loop moves
 
--- the first fault: here; one byte on; the end, where fewer than three bytes are left
-pub first-at : (s : List ℕ) (i : ℕ) → faultHere (drop i s) ≡ true → i + firstFault (drop i s) ≡ i
-first-at s i e = omega (arith, first-here (drop i s) e)
-
+-- the first fault: one byte on; the end, where fewer than three bytes are left
 pub first-step : (s : List ℕ) (i : ℕ) → i < length s → faultHere (drop i s) ≡ false → i + firstFault (drop i s) ≡ i + 1 + firstFault (drop (i + 1) s)
 first-step s i h e =
     let d = drop-step s i h in
@@ -191,6 +197,57 @@ next-on s i k h f e = e ∙ rw (add-assoc i k 1) at (next-step s (i + k) h f)
 pub first-on : (s : List ℕ) (i k : ℕ) → i + k < length s → faultHere (drop (i + k) s) ≡ false → i + firstFault (drop i s) ≡ i + k + firstFault (drop (i + k) s)
     → i + firstFault (drop i s) ≡ i + (k + 1) + firstFault (drop (i + (k + 1)) s)
 first-on s i k h f e = e ∙ rw (add-assoc i k 1) at (first-step s (i + k) h f)
+
+-- what the search finds from the place `from` on: the first fault, and a place from which on no inserted byte stands up to the fault's third byte
+pub record Sought (s : List ℕ) (from : ℕ) (r : Found) : Type 0 where
+  pub fault : r .fault ≡ from + firstFault (drop from s)
+  pub calm : (e : ℕ) → e ≤ r .fault + 2 → e ≤ length s → insCount s (r .calm) e ≡ 0
+
+-- the search has reached the place i, and no inserted byte stands from c up to i + 2
+pub record Seeking (s : List ℕ) (from i c : ℕ) : Type 0 where
+  pub within : i ≤ length s
+  pub first : from + firstFault (drop from s) ≡ i + firstFault (drop i s)
+  pub low : 1 ≤ c
+  pub flat : Flat s c (i + 2)
+
+pub seek-start : (s : List ℕ) (from c : ℕ) → from ≤ length s → 1 ≤ c → Flat s c (from + 2) → Seeking s from from c
+seek-start s from c h l g = record { within = h; first = refl; low = l; flat = g }
+
+-- one place on, where nothing stands
+pub seek-keep : {s : List ℕ} {from i c : ℕ} → Seeking s from i c → i + 3 ≤ length s → (faultHere (drop i s) ≡ false) × (insAt s (i + 2) ≡ false) → Seeking s from (i + 1) c
+seek-keep {s} {from} {i} {c} g h f =
+    record { within = omega arith; first = g .first ∙ first-step s i (omega arith) (f .0); low = g .low; flat = flat-more (i + 1 + 2) (g .flat) (f .1) (omega arith) }
+
+-- and where an inserted byte may stand: it is calm from behind it on
+pub seek-raise : {s : List ℕ} {from i c : ℕ} → Seeking s from i c → i + 3 ≤ length s → faultHere (drop i s) ≡ false → Seeking s from (i + 1) (i + 3)
+seek-raise {s} {from} {i} {c} g h f =
+    record { within = omega arith; first = g .first ∙ first-step s i (omega arith) f; low = omega arith; flat = flat-none s (i + 3) (i + 1 + 2) (omega arith) }
+
+-- the same by a count of places
+pub seek-next : {s : List ℕ} {from c : ℕ} (k : ℕ) → Seeking s from (from + k) c → from + k + 3 ≤ length s → (faultHere (drop (from + k) s) ≡ false) × (insAt s (from + k + 2) ≡ false)
+    → Seeking s from (from + (k + 1)) c
+seek-next {from = from} k g h f = rw (add-assoc from k 1) at (seek-keep g h f)
+
+-- some places on, which were looked at by themselves
+pub seek-more : {s : List ℕ} {from i c j : ℕ} → Seeking s from i c → Seeking s i j (i + 2) → Seeking s from j c
+seek-more g h = record { within = h .within; first = g .first ∙ h .first; low = g .low; flat = flat-join (g .flat) (h .flat) }
+
+pub seek-past : {s : List ℕ} {from i c : ℕ} → Seeking s from i c → i + 67 ≤ length s → i + firstFault (drop i s) ≡ i + 64 + firstFault (drop (i + 64) s) → Seeking s from (i + 64) (i + 66)
+seek-past {s} {from} {i} {c} g h f =
+    record { within = omega arith; first = g .first ∙ f; low = omega arith; flat = flat-none s (i + 66) (i + 64 + 2) (omega arith) }
+
+-- at a fault, and at the end
+pub seek-found : {s : List ℕ} {from i c : ℕ} → Seeking s from i c → faultHere (drop i s) ≡ true → Sought s from (record { fault = i; calm = c })
+seek-found {s} {from} {i} {c} g f =
+    record { fault = omega (arith, g .first, first-here (drop i s) f); calm = λ e h l. flat-count (g .flat) (g .low) e h l }
+
+pub seek-end : {s : List ℕ} {from i c : ℕ} → Seeking s from i c → length s < i + 3 → Sought s from (record { fault = length s; calm = c })
+seek-end {s} {from} {i} {c} g h =
+    record { fault = omega (arith, g .first, first-short s i (g .within) h); calm = λ e k l. flat-count (g .flat) (g .low) e (omega arith) l }
+
+-- what a search from a place that was reached finds
+pub seek-on : {s : List ℕ} {from i c : ℕ} {r : Found} → Seeking s from i c → Sought s i r → Sought s from r
+seek-on g h = record { fault = h .fault ∙ sym (g .first); calm = h .calm }
 
 -- of the bytes from a place to another the last is zero: it goes
 pub trim-back : (s : List ℕ) (from n : ℕ) → from < n → n ≤ length s → getD s (n - 1) 0 ≡ 0
@@ -369,32 +426,7 @@ unit-bad s = by (fault (unitOf s)) refl
 
 -- The unit at a place of a slice
 
--- the unit whose bytes begin at the place `from` of s, by the places of s
-unfoldable pub unitScan : List ℕ → ℕ → UnitScan
-unitScan s from = record { end = from + next (drop from s); stop = from + length (unitOf (drop from s)); bad = fault (unitOf (drop from s)) }
-
--- behind the end there is none
-pub unit-beyond : (s : List ℕ) (from : ℕ) → length s ≤ from → unitScan s from ≡ record { end = from; stop = from; bad = false }
-unfolding unitScan unitOf next trim fault
-unit-beyond s from h = rw (drop-of-length-le s h, add-zero from) refl
-
--- the unit as the code finds it: the first fault, the next start code from there on, the trailing zeros before that
-module _ (s : List ℕ) (from f e t : ℕ) (ef : f ≡ from + firstFault (drop from s)) (ee : e ≡ f + next (drop f s)) where
-  unit-end : e ≡ from + next (drop from s)
-  unit-end = omega (arith, next-first (drop from s), ap next (drop-drop (firstFault (drop from s)) from s ∙ ap (λ (i : ℕ). drop i s) (sym ef)))
-
-  shift : (m n : ℕ) → f ≡ from + m → t ≡ from + n → leb (m + 3) n ≡ leb (f + 3) t
-  shift m n p q = either (m + 3) n (λ h. le-leb (m + 3) n h ∙ sym (le-leb (f + 3) t (omega arith))) (λ h. lt-leb (m + 3) n h ∙ sym (lt-leb (f + 3) t (omega arith)))
-
-  pub unit-found : t ≡ from + length (trim (take (e - from) (drop from s))) → unitScan s from ≡ record { end = e; stop = t; bad = leb (f + 3) t }
-  unfolding unitScan unitOf
-  unit-found et =
-      let q : e - from ≡ next (drop from s) = omega (arith, unit-end) in
-      let k : t ≡ from + length (unitOf (drop from s)) = rw q at et in
-      let b : fault (unitOf (drop from s)) ≡ leb (f + 3) t = unit-bad (drop from s) ∙ shift (firstFault (drop from s)) (length (unitOf (drop from s))) ef k in
-      cc unit-end
-
--- what a caller learns of the scan's answer: its three values, and that the unit is the bytes from `from` to `stop`
+-- what a caller learns of the scan's answer: its values, that the unit is the bytes from `from` to `stop`, and that no inserted byte stands in it from `calm` on
 pub record Scanned (s : List ℕ) (from : ℕ) (r : UnitScan) : Type 0 where
   pub end : r .end ≡ from + next (drop from s)
   pub stop : r .stop ≡ from + length (unitOf (drop from s))
@@ -402,19 +434,52 @@ pub record Scanned (s : List ℕ) (from : ℕ) (r : UnitScan) : Type 0 where
   pub unit : unitOf (drop from s) ≡ part s from (r .stop - from)
   pub most : r .stop ≤ r .end
   pub inside : from ≤ length s → r .end ≤ length s
+  pub calm : insCount s (r .calm) (r .stop) ≡ 0
 
--- so it is of the answer
-pub unit-scanned : (s : List ℕ) (from : ℕ) (r : UnitScan) → r ≡ unitScan s from → Scanned s from r
-unfolding unitScan part
-unit-scanned s from r e =
+-- the unit by its bounds
+scanned : (s : List ℕ) (from e t c : ℕ) (b : Bool) → e ≡ from + next (drop from s) → t ≡ from + length (unitOf (drop from s)) → b ≡ fault (unitOf (drop from s)) → insCount s c t ≡ 0
+    → Scanned s from (record { end = e; stop = t; bad = b; calm = c })
+unfolding part
+scanned s from e t c b p q f z =
     let u = drop from s in
-    let k : from + length (unitOf u) - from ≡ length (unitOf u) = omega arith in
-    rw e
+    let k : t - from ≡ length (unitOf u) = omega arith in
     record {
-      end = refl;
-      stop = refl;
-      bad = refl;
+      end = p;
+      stop = q;
+      bad = f;
       unit = rw k (unit-take u);
       most = omega (arith, unit-le u);
       inside = λ h. omega (arith, next-le u, length-drop from s);
+      calm = z;
     }
+
+-- behind the end there is none
+pub unit-beyond : (s : List ℕ) (from : ℕ) → length s ≤ from → Scanned s from (record { end = from; stop = from; bad = false; calm = from })
+unfolding unitOf next trim fault
+unit-beyond s from h =
+    let d : drop from s ≡ [] = drop-of-length-le s h in
+    scanned s from from from from false (rw (d, add-zero from) refl) (rw (d, add-zero from) refl) (rw d refl) (count-end s from from (omega arith))
+
+-- the unit as the code finds it: the first fault, the next start code from there on, the trailing zeros before that
+module _ (s : List ℕ) (from e t : ℕ) (r : Found) (g : Sought s from r) (ee : e ≡ r .fault + next (drop (r .fault) s)) (l : from ≤ length s)
+    (et : t ≡ from + length (trim (take (e - from) (drop from s)))) where
+  unit-end : e ≡ from + next (drop from s)
+  unit-end = omega (arith, g .fault, next-first (drop from s), ap next (drop-drop (firstFault (drop from s)) from s ∙ ap (λ (i : ℕ). drop i s) (sym (g .fault))))
+
+  unit-stop : t ≡ from + length (unitOf (drop from s))
+  unfolding unitOf
+  unit-stop = let q : e - from ≡ next (drop from s) = omega (arith, unit-end) in rw q at et
+
+  fault-by : fault (unitOf (drop from s)) ≡ leb (firstFault (drop from s) + 3) (length (unitOf (drop from s)))
+  fault-by = unit-bad (drop from s)
+
+  pub unit-faulty : r .fault + 3 ≤ t → Scanned s from (record { end = e; stop = t; bad = true; calm = t })
+  unit-faulty h =
+      let f : fault (unitOf (drop from s)) ≡ true = fault-by ∙ le-leb (firstFault (drop from s) + 3) (length (unitOf (drop from s))) (omega (arith, g .fault, unit-stop)) in
+      scanned s from e t t true unit-end unit-stop (sym f) (count-end s t t (omega arith))
+
+  pub unit-whole : t < r .fault + 3 → Scanned s from (record { end = e; stop = t; bad = false; calm = r .calm })
+  unit-whole h =
+      let f : fault (unitOf (drop from s)) ≡ false = fault-by ∙ lt-leb (firstFault (drop from s) + 3) (length (unitOf (drop from s))) (omega (arith, g .fault, unit-stop)) in
+      let z = g .calm t (omega arith) (omega (arith, unit-stop, unit-le (drop from s), next-le (drop from s), length-drop from s)) in
+      scanned s from e t (r .calm) false unit-end unit-stop (sym f) z

@@ -3,7 +3,7 @@
 --     Passed s p e n r         r is a place behind the payload's next n bytes
 --     Took s p e n d a d′ r    those were written at the place a of a buffer that held d and holds d′, and r is a place behind them
 --     Stands s e X n p         p is the place of the byte n of the payload X: what a reader that knows X keeps of its place
---     pass-stretch             a stretch that keeps v; took-stretch, written as v; took-calm, where no byte of it is inserted
+--     pass-stretch             a stretch that keeps v; took-stretch, written as v; pass-calm, took-calm, where no byte of it is inserted
 --     stands-start             the place behind a unit's header; stands-pass, stands-took, stands-stretch, stands-calm from there on
 -- Assumes nothing.
 use mathlib.Core.Path.{_≡_, refl, sym, ap, _∙_}
@@ -15,10 +15,10 @@ use native.Mathlib.Omega.{arith}
 use lib.Dec.{eqb}
 use lib.ListN.{length, take, drop, getD, set, length-drop}
 use lib.Seq.{take-add, take-at, drop-at, drop-drop, length-take-le, getD-drop}
-use borrow.Author.Tests.{eqb-true}
+use borrow.Author.Tests.{eqb-true, eq-eqb}
 use Rattle.lists.specs.Fill.{splice, splice-none, splice-length, set-splice, splice-splice}
 use Rattle.lists.specs.Part.{part, part-length}
-use Rattle.nal_unit.specs.Kept.{kept, insCount, kept-un, kept-append, kept-length, kept-calm, calm-part}
+use Rattle.nal_unit.specs.Kept.{kept, insCount, kept-un, kept-append, kept-length, kept-calm, calm-part, calm-from}
 use Rattle.nal_unit.specs.Unescape.{un}
 
 -- The next byte
@@ -105,6 +105,14 @@ kept-flat s p m n i h l t =
     let w : p + n - p ≡ n = omega arith in
     let z = calm-part s p (p + m) p (p + n) i (omega arith) (omega arith) (omega arith) l (eqb-true (insCount s p (p + m)) 0 t) in
     kept-calm s p (p + n) z ∙ ap (λ (k : ℕ). part s p k) w
+
+-- n calm bytes; they are calm where all are from a place c on
+pub pass-calm : {s : List ℕ} (p e n : ℕ) → 1 ≤ p → p + n ≤ e → e ≤ length s → eqb (insCount s p (p + n)) 0 ≡ true → Passed s p e n (p + n)
+pass-calm {s} p e n i h l t =
+    pass-stretch p e (p + n) n (part s p n) i (omega arith) h l (kept-flat s p n n i (omega arith) (omega arith) t) (part-length s p n (omega arith))
+
+pub calm-behind : (s : List ℕ) (c p e n : ℕ) → 1 ≤ p → c ≤ p → p + n ≤ e → e ≤ length s → insCount s c e ≡ 0 → eqb (insCount s p (p + n)) 0 ≡ true
+calm-behind s c p e n i h k l z = eq-eqb (insCount s p (p + n)) 0 (calm-part s p e p (p + n) i (omega arith) (omega arith) k l (calm-from s c p e h l z))
 
 -- a row of n bytes, of any width, where m bytes are calm
 pub took-calm : {s : List ℕ} {d : List ℕ} {a : ℕ} {d′ : List ℕ} (p e m n : ℕ) → 1 ≤ p → n ≤ m → p + m ≤ e → e ≤ length s → eqb (insCount s p (p + m)) 0 ≡ true

@@ -8,7 +8,8 @@ ghost use lib.Dec.{leb, eqb};
 ghost use lib.ListN.{length, take, drop};
 ghost use Rattle.nal_unit.specs.StartCode.{code, next};
 ghost use Rattle.nal_unit.specs.Unescape.{faultHere};
-ghost use Rattle.nal_unit.specs.ScanCode.{firstFault, unitScan};
+ghost use Rattle.nal_unit.specs.Kept.{insAt, Flat};
+ghost use Rattle.nal_unit.specs.ScanCode.{firstFault, Seeking, Sought, Scanned};
 ghost use Rattle.nal_unit.specs.Walk.{blank, trim};
 
 // Whether a start code stands at `i`.
@@ -103,15 +104,15 @@ fn fault_at(s: &[u8], i: usize) -> bool
 // Whether two zeros and a byte of 03 or less stand at `i`, as in every fault and around every inserted byte.
 fn low_at(s: &[u8], i: usize) -> bool
     requires { ⌜ i + 3 ≤ length (now s) ⌝ }
-    ensures { λ r. ⌜ (r ≡ false → faultHere (drop i (now (s .entry))) ≡ false) ⌝ }
+    ensures { λ r. ⌜ (r ≡ false → (faultHere (drop i (now (s .entry))) ≡ false) × (insAt (now (s .entry)) (i + 2) ≡ false)) ⌝ }
 {
     s[i] | s[i + 1] | (s[i + 2] & 252) == 0
 }
 
-// Where it answers 0, no fault begins at one of the 64 places from `i` on. A quick test, which inserted bytes do not pass.
+// Where it answers 0, no fault begins at one of the 64 places from `i` on, and none of the 64 bytes from `i` + 2 on is an inserted one.
 fn low64(s: &[u8], i: usize) -> u8
     requires { ⌜ i + 66 ≤ length (now s) ⌝ }
-    ensures { λ r. ⌜ (r ≡ 0 → i + firstFault (drop i (now (s .entry))) ≡ i + 64 + firstFault (drop (i + 64) (now (s .entry)))) ⌝ }
+    ensures { λ r. ⌜ (r ≡ 0 → Seeking (now (s .entry)) i (i + 64) (i + 2)) ⌝ }
 {
     let mut found: u8 = 0;
     let mut k: usize = 0;
@@ -124,7 +125,7 @@ fn low64(s: &[u8], i: usize) -> u8
     found
 }
 
-// The same by the exact test.
+// Where it answers 0, no fault begins at one of the 64 places from `i` on, inserted bytes or not.
 fn fault64(s: &[u8], i: usize) -> u8
     requires { ⌜ i + 67 ≤ length (now s) ⌝ }
     ensures { λ r. ⌜ (r ≡ 0 → i + firstFault (drop i (now (s .entry))) ≡ i + 64 + firstFault (drop (i + 64) (now (s .entry)))) ⌝ }
@@ -140,31 +141,52 @@ fn fault64(s: &[u8], i: usize) -> u8
     found
 }
 
-// The same by the quick test, and by the exact one where that finds something.
-fn faults64(s: &[u8], i: usize) -> u8
-    requires { ⌜ i + 67 ≤ length (now s) ⌝ }
-    ensures { λ r. ⌜ (r ≡ 0 → i + firstFault (drop i (now (s .entry))) ≡ i + 64 + firstFault (drop (i + 64) (now (s .entry)))) ⌝ }
-{
-    let low = low64(s, i);
-    if low == 0 {
-        return low;
-    }
-    fault64(s, i)
+// The first fault, or the end, and a place from which on no inserted byte stands before it.
+pub struct Found {
+    pub fault: usize,
+    pub calm: usize,
 }
 
-// The first fault at or behind `from`, byte by byte.
-fn fault_plain(s: &[u8], from: usize) -> usize
+// The first fault at or behind `from`, byte by byte. No inserted byte stands from `calm` up to `from` + 2.
+fn seek_plain(s: &[u8], from: usize, calm: usize) -> Found
     requires { ⌜ from ≤ length (now s) ⌝ }
-    ensures { λ r. ⌜ r ≡ from + firstFault (drop from (now (s .entry))) ⌝ }
+    requires { ⌜ (1 ≤ calm) × Flat (now s) calm (from + 2) ⌝ }
+    ensures { λ r. ⌜ Sought (now (s .entry)) from r ⌝ }
 {
     let mut i = from;
+    let mut c = calm;
     while 3 <= s.len() - i {
-        if fault_at(s, i) {
-            return i;
+        if low_at(s, i) {
+            if fault_at(s, i) {
+                return Found { fault: i, calm: c };
+            }
+            c = i + 3;
         }
         i += 1;
     }
-    s.len()
+    Found {
+        fault: s.len(),
+        calm: c,
+    }
+}
+
+// The first fault at or behind `from`. The quick test finds inserted bytes too, and so the last 64 places that have any; only there the exact test is made.
+fn seek(s: &[u8], from: usize) -> Found
+    requires { ⌜ from ≤ length (now s) ⌝ }
+    ensures { λ r. ⌜ Sought (now (s .entry)) from r ⌝ }
+{
+    let mut i = from;
+    let mut c = from + 2;
+    while 67 <= s.len() - i {
+        if low64(s, i) != 0 {
+            if fault64(s, i) != 0 {
+                return seek_plain(s, i, c);
+            }
+            c = i + 66;
+        }
+        i += 64;
+    }
+    seek_plain(s, i, c)
 }
 
 // The place of the first fault at or behind `from`, or the end; a place beyond the end is answered as it is.
@@ -174,21 +196,17 @@ pub fn first_fault(s: &[u8], from: usize) -> usize
     if s.len() < from {
         return from;
     }
-    let mut i = from;
-    while 67 <= s.len() - i {
-        if faults64(s, i) != 0 {
-            return fault_plain(s, i);
-        }
-        i += 64;
-    }
-    fault_plain(s, i)
+    let found = seek(s, from);
+    found.fault
 }
 
-// Where a unit ends: the next start code or the end, the place behind the unit's last byte, and whether the unit has a fault.
+// Where a unit ends: the next start code or the end, the place behind the unit's last byte, whether the unit has a fault, and a place from which on no
+// inserted byte stands in it.
 pub struct UnitScan {
     pub end: usize,
     pub stop: usize,
     pub bad: bool,
+    pub calm: usize,
 }
 
 // The place behind the last byte that is not zero of those from `from` to `end`, or `from` where all are.
@@ -207,24 +225,37 @@ fn trim_end(s: &[u8], from: usize, end: usize) -> usize
     stop
 }
 
-// The unit whose bytes begin at `from`, behind its start code. Trailing zeros are no part of it, also for the fault.
+// The unit whose bytes begin at `from`, behind its start code. Trailing zeros are no part of it, also for the fault. In a unit with a fault the calm place is
+// its stop: what is behind the fault was not looked at.
 pub fn unit_scan(s: &[u8], from: usize) -> UnitScan
-    ensures { λ r. ⌜ r ≡ unitScan (now (s .entry)) from ⌝ }
+    ensures { λ r. ⌜ Scanned (now (s .entry)) from r ⌝ }
 {
     if s.len() < from {
         return UnitScan {
             end: from,
             stop: from,
             bad: false,
+            calm: from,
         };
     }
-    let fault = first_fault(s, from);
+    let found = seek(s, from);
+    let fault = found.fault;
+    let calm = found.calm;
     let end = next_code(s, fault);
     let stop = trim_end(s, from, end);
+    if fault + 3 <= stop {
+        return UnitScan {
+            end,
+            stop,
+            bad: true,
+            calm: stop,
+        };
+    }
     UnitScan {
-        end: end,
-        stop: stop,
-        bad: fault + 3 <= stop,
+        end,
+        stop,
+        bad: false,
+        calm,
     }
 }
 

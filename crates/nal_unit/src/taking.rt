@@ -146,6 +146,21 @@ pub fn payload_len(s: &[u8], o: usize, e: usize) -> usize
     e - (o + 1) - count_inserted(s, o + 1, e)
 }
 
+// The same where no inserted byte stands from the place c on: only those before it are counted.
+pub fn payload_len_to(s: &[u8], o: usize, e: usize, c: usize) -> usize
+    requires { ⌜ (1 ≤ o) × (o < e) × (e ≤ length (now s)) ⌝ }
+    requires { ⌜ 0 < getD (now s) o 0 ⌝ }
+    requires { ⌜ insCount (now s) c e ≡ 0 ⌝ }
+    ensures { λ r. ⌜ r ≡ length (un (drop 1 (part (now (s .entry)) o (e - o)))) ⌝ }
+{
+    if o < c {
+        if c < e {
+            return e - (o + 1) - count_inserted(s, o + 1, c);
+        }
+    }
+    payload_len(s, o, e)
+}
+
 // A place behind the payload's next n bytes. As many bytes of the stretch are passed, and then as many again as were inserted among them.
 pub fn skip(s: &[u8], p: usize, e: usize, n: usize) -> usize
     requires { ⌜ (2 ≤ p) × (p ≤ e) × (e ≤ length (now s)) ⌝ }
@@ -194,6 +209,41 @@ pub fn pairs(s: &[u8], p: usize, n: usize) -> bool
         k += 1;
     }
     f == 0
+}
+
+// A place behind the payload's next n bytes, where inserted bytes stand among them: pairs of zeros are passed at once, others by their counts.
+fn pass_marked(s: &[u8], p: usize, e: usize, n: usize) -> usize
+    requires { ⌜ (2 ≤ p) × (p ≤ e) × (e ≤ length (now s)) ⌝ }
+    requires { ⌜ n ≤ length (kept (now s) p e) ⌝ }
+    ensures { λ r. ⌜ Passed (now (s .entry)) p e n r ⌝ }
+{
+    let m = n / 2;
+    if m > 0 {
+        if 2 * m == n {
+            if 3 * m <= e - p {
+                if pairs(s, p, m) {
+                    return p + 3 * m;
+                }
+            }
+        }
+    }
+    skip(s, p, e, n)
+}
+
+// A place behind the payload's next n bytes, where no inserted byte stands from the place c on. Calm bytes are passed as they stand.
+pub fn pass(s: &[u8], p: usize, e: usize, c: usize, n: usize) -> usize
+    requires { ⌜ (2 ≤ p) × (p ≤ e) × (e ≤ length (now s)) ⌝ }
+    requires { ⌜ n ≤ length (kept (now s) p e) ⌝ }
+    requires { ⌜ insCount (now s) c e ≡ 0 ⌝ }
+    ensures { λ r. ⌜ Passed (now (s .entry)) p e n r ⌝ }
+{
+    if c <= p {
+        return p + n;
+    }
+    if calm(s, p, n) {
+        return p + n;
+    }
+    pass_marked(s, p, e, n)
 }
 
 // Writes n zeros at the place `at` of the output.

@@ -1,5 +1,6 @@
 // Whether a picture's payload is formed as paper 01 says ("The bits of a take"; 18): the slice header with the first mb_type, what stands before every other
-// macroblock, the last byte. No sample is looked at. The unit of the payload begins with its header byte at the place o and ends at e.
+// macroblock, the last byte. No sample is looked at. The unit of the payload begins with its header byte at the place o and ends at e, and no inserted byte
+// stands in it from the place c on.
 use nal_unit::taking;
 use ycbcr_image::Session;
 ghost use mathlib.Core.Path.{_≡_};
@@ -9,7 +10,7 @@ ghost use lib.Dec.{eqb};
 ghost use lib.ListN.{length, getD};
 ghost use Rattle.lists.specs.Stands.{begins};
 ghost use Rattle.lists.specs.Test.{allBelow};
-ghost use Rattle.nal_unit.specs.Kept.{kept};
+ghost use Rattle.nal_unit.specs.Kept.{kept, insCount};
 ghost use Rattle.nal_unit.specs.Taking.{Stands};
 ghost use Rattle.slice.specs.Formed.{headStands, right};
 ghost use Rattle.slice.specs.Header.{headerOf};
@@ -38,30 +39,32 @@ fn bytes_at(s: &[u8], p: usize, e: usize, v: &[u8]) -> bool
 }
 
 // Whether n macroblocks of `size` bytes of samples, the first of which begin at the place p, have their heads, and 80 stands behind the last.
-fn heads(s: &[u8], o: usize, e: usize, p: usize, size: usize, n: usize) -> bool
+fn heads(s: &[u8], o: usize, e: usize, c: usize, p: usize, size: usize, n: usize) -> bool
     requires { ⌜ Stands (now s) e (payloadAt (now s) o e) 4 p ⌝ }
     requires { ⌜ (0 < n) × (length (payloadAt (now s) o e) + 1 ≡ 4 + n * (2 + size)) ⌝ }
+    requires { ⌜ insCount (now s) c e ≡ 0 ⌝ }
     ensures { λ r. ⌜ r ≡ allBelow (n - 1) (headStands (headerOf 0 0) size (payloadAt (now (s .entry)) o e)) && eqb (getD (payloadAt (now (s .entry)) o e) (length (payloadAt (now (s .entry)) o e) - 1) 0) 128 ⌝ }
 {
     let last = n - 1;
     let mut q = p;
     let mut i = 0;
     while i < last {
-        q = taking::skip(s, q, e, size);
+        q = taking::pass(s, q, e, c, size);
         if !bytes_at(s, q, e, b"\x0d\0") {
             return false;
         }
-        q = taking::skip(s, q, e, 2);
+        q = taking::pass(s, q, e, c, 2);
         i += 1;
     }
-    q = taking::skip(s, q, e, size);
+    q = taking::pass(s, q, e, c, size);
     taking::byte_at(s, q, e) == 128
 }
 
 // Whether header, heads and last byte of a payload of the exact length are right: what 18 looks at beside the length.
-pub fn right(s: &[u8], o: usize, e: usize, q: Session) -> bool
+pub fn right(s: &[u8], o: usize, e: usize, c: usize, q: Session) -> bool
     requires { ⌜ UnitAt (now s) o e ⌝ }
     requires { ⌜ (Fine (sequenceOf q)) × (length (payloadAt (now s) o e) ≡ pictureLength (sequenceOf q)) ⌝ }
+    requires { ⌜ insCount (now s) c e ≡ 0 ⌝ }
     ensures { λ r. ⌜ r ≡ right (headerOf 0 0) (mbBytes (sequenceOf q .form)) (mbsIn (sequenceOf q)) (payloadAt (now (s .entry)) o e) ⌝ }
 {
     let size = ycbcr_image::mb_bytes(q);
@@ -70,5 +73,5 @@ pub fn right(s: &[u8], o: usize, e: usize, q: Session) -> bool
         return false;
     }
     let p = taking::skip(s, o + 1, e, 4);
-    heads(s, o, e, p, size, n)
+    heads(s, o, e, c, p, size, n)
 }

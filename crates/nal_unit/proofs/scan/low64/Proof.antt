@@ -1,23 +1,28 @@
--- `nal_unit::scan::low64` meets its contract. The invariant: while nothing is found, the first fault is that from the place reached on. Assumes nothing.
+-- `nal_unit::scan::low64` meets its contract. The invariant: while nothing is found, the search has reached the next place. Assumes nothing.
 use mathlib.Core.Path.{_≡_, refl, sym, _∙_}
 use mathlib.Core.Logic.{inl, inr}
 use Prim.Native.Nat.{_+_, _-_, _≤_}
 use native.Mathlib.Omega.{arith}
 use native.Mathlib.Nat.{add-zero}
-use lib.ListN.{drop}
+use lib.ListN.{length}
 use borrow.Author.Needs.{needs}
-use Rattle.nal_unit.specs.ScanCode.{firstFault, first-on}
+use Rattle.nal_unit.specs.Kept.{flat-none}
+use Rattle.nal_unit.specs.ScanCode.{Seeking, seek-start, seek-next}
 use Rattle.nal_unit.proofs.scan.low64.Statement.{statement}
 use Rattle.nal_unit.proofs.scan.low64.Tie as tie
 
 abbrev Inv-loop : tie.InvT-loop
-Inv-loop s i found₀ k₀ found k = (k ≤ 64) × (found ≡ 0 → i + firstFault (drop i s) ≡ i + k + firstFault (drop (i + k) s))
+Inv-loop s i found₀ k₀ found k = (k ≤ 64) × (found ≡ 0 → Seeking s i (i + k) (i + 2))
 
 abbrev μ-loop : tie.MeasureT-loop
 μ-loop s i found₀ k₀ found k = 64 - k
 
 loop-holds : tie.Need-loop-holds Inv-loop μ-loop
-loop-holds c = (search needs, λ e. rw (add-zero (c .before .args .i)) refl)
+loop-holds c =
+    let s = c .before in
+    let i = s .args .i in
+    let g = flat-none (s .args .s .now) (i + 2) (i + 2) (omega arith) in
+    (search needs, λ e. rw (add-zero i) (seek-start (s .args .s .now) i (i + 2) (omega (arith, s .pre)) (omega arith) g))
 
 add-low-at : tie.Need-add-low-at Inv-loop μ-loop
 add-low-at c = search needs
@@ -35,8 +40,8 @@ loop-again : tie.Need-loop-again Inv-loop μ-loop
 loop-again c =
     let l = c .before .before .before in
     let a = l .before .before .args in
-    let more = first-on (a .s .now) (a .i) (l .loop .k) (omega (arith, l .before .before .pre)) in
-    (search needs, λ e. elim (c .if1 .came) [ inl w ↦ absurd (omega (arith, w .1, e)) | inr w ↦ more (c .before .low-at .ensures (w .0 .left)) (l .loop .inv .1 (sym (w .1) ∙ e)) ])
+    let room : a .i + l .loop .k + 3 ≤ length (a .s .now) = omega (arith, l .before .before .pre) in
+    (search needs, λ e. elim (c .if1 .came) [ inl w ↦ absurd (omega (arith, w .1, e)) | inr w ↦ seek-next (l .loop .k) (l .loop .inv .1 (sym (w .1) ∙ e)) room (c .before .low-at .ensures (w .0 .left)) ])
 
 returns : tie.Need-returns Inv-loop μ-loop
 returns c = λ e. let l = c .before in let q : l .loop .k ≡ 64 = omega arith in rw q at (l .loop .inv .1 e)

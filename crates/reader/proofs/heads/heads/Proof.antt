@@ -8,23 +8,23 @@ use Rattle.reader.proofs.heads.heads.Statement.{statement}
 use Rattle.reader.proofs.heads.heads.Tie as tie
 
 abbrev Inv-loop : tie.InvT-loop
-Inv-loop s o e p size n last q₀ i₀ t10 q i = Heading s e (payloadAt s o e) size n q i
+Inv-loop s o e c p size n last q₀ i₀ t10 q i = Heading s e (payloadAt s o e) size n q i
 
 abbrev μ-loop : tie.MeasureT-loop
-μ-loop s o e p size n last q₀ i₀ t10 q i = n - 1 - i
+μ-loop s o e c p size n last q₀ i₀ t10 q i = n - 1 - i
 
 sub-last : tie.Need-sub-last Inv-loop μ-loop
-sub-last c = omega (arith, c .before .pre .1 .0)
+sub-last c = omega (arith, c .before .pre .1 .0 .0)
 
 loop-holds : tie.Need-loop-holds Inv-loop μ-loop
 loop-holds c =
     let s = c .before in
-    heading-start (s .args .size) (s .args .n) (s .pre .0) (s .pre .1 .0) (s .pre .1 .1)
+    heading-start (s .args .size) (s .args .n) (s .pre .0) (s .pre .1 .0 .0) (s .pre .1 .0 .1)
 
-skip-requires : tie.Need-skip-requires Inv-loop μ-loop
-skip-requires c κs =
+pass-requires : tie.Need-pass-requires Inv-loop μ-loop
+pass-requires c κs =
     let g = c .before .loop .inv in
-    ((g .at .low, g .at .high, g .at .inside), heading-samples g)
+    ((g .at .low, g .at .high, g .at .inside), (heading-samples g, c .before .before .before .pre .1 .1))
 
 slice-aggregate-bytes-at : tie.Need-slice-aggregate-bytes-at Inv-loop μ-loop
 slice-aggregate-bytes-at c = search needs
@@ -32,19 +32,19 @@ slice-aggregate-bytes-at c = search needs
 bytes-at-requires : tie.Need-bytes-at-requires Inv-loop μ-loop
 bytes-at-requires c κs =
     let g = c .before .before .before .loop .inv in
-    let r = c .before .skip .ensures in
+    let r = c .before .pass .ensures in
     let t = heading-behind g r in
     ((t .low, (t .high, t .inside)), heading-two g (c .before .before .loop-test .taken) r)
 
 returns : tie.Need-returns Inv-loop μ-loop
-returns c = heading-not _ (c .before .before .before .before .before .loop .inv) (c .before .before .before .before .loop-test .taken) (c .before .before .before .skip .ensures) (c .before .bytes-at .ensures) (not-true _ (c .if1 .taken))
+returns c = heading-not _ (c .before .before .before .before .before .loop .inv) (c .before .before .before .before .loop-test .taken) (c .before .before .before .pass .ensures) (c .before .bytes-at .ensures) (not-true _ (c .if1 .taken))
 
-skip-requires-2 : tie.Need-skip-requires-2 Inv-loop μ-loop
-skip-requires-2 c κs =
+pass-requires-2 : tie.Need-pass-requires-2 Inv-loop μ-loop
+pass-requires-2 c κs =
     let g = c .before .before .before .before .before .loop .inv in
-    let r = c .before .before .before .skip .ensures in
+    let r = c .before .before .before .pass .ensures in
     let t = heading-behind g r in
-    ((t .low, t .high, t .inside), heading-two g (c .before .before .before .before .loop-test .taken) r)
+    ((t .low, t .high, t .inside), (heading-two g (c .before .before .before .before .loop-test .taken) r, c .before .before .before .before .before .before .before .pre .1 .1))
 
 add-i : tie.Need-add-i Inv-loop μ-loop
 add-i c = search needs
@@ -53,22 +53,22 @@ loop-less : tie.Need-loop-less Inv-loop μ-loop
 loop-less c = search needs
 
 loop-again : tie.Need-loop-again Inv-loop μ-loop
-loop-again c = heading-turn (c .before .before .before .before .before .before .loop .inv) (c .before .before .before .before .before .loop-test .taken) (c .before .before .before .before .skip .ensures) (c .before .before .bytes-at .ensures) (not-false _ (c .before .if1 .left)) (c .skip2 .ensures)
+loop-again c = heading-turn (c .before .before .before .before .before .before .loop .inv) (c .before .before .before .before .before .loop-test .taken) (c .before .before .before .before .pass .ensures) (c .before .before .bytes-at .ensures) (not-false _ (c .before .if1 .left)) (c .pass2 .ensures)
 
-skip-requires-3 : tie.Need-skip-requires-3 Inv-loop μ-loop
-skip-requires-3 c κs =
+pass-requires-3 : tie.Need-pass-requires-3 Inv-loop μ-loop
+pass-requires-3 c κs =
     let g = c .before .loop .inv in
-    ((g .at .low, g .at .high, g .at .inside), heading-samples g)
+    ((g .at .low, g .at .high, g .at .inside), (heading-samples g, c .before .before .before .pre .1 .1))
 
 byte-at-requires : tie.Need-byte-at-requires Inv-loop μ-loop
 byte-at-requires c κs =
     let g = c .before .before .loop .inv in
-    let r = c .skip3 .ensures in
+    let r = c .pass3 .ensures in
     let t = heading-behind g r in
     ((t .low, t .inside), heading-last g (omega (arith, c .before .loop-test .left)) r)
 
 returns-2 : tie.Need-returns-2 Inv-loop μ-loop
-returns-2 c = heading-end (c .before .before .before .loop .inv) (omega (arith, c .before .before .loop-test .left)) (c .before .skip3 .ensures) (c .byte-at .ensures)
+returns-2 c = heading-end (c .before .before .before .loop .inv) (omega (arith, c .before .before .loop-test .left)) (c .before .pass3 .ensures) (c .byte-at .ensures)
 
 pub heads-spec : {M : Type 1} → statement M
 heads-spec =
@@ -78,14 +78,14 @@ heads-spec =
     μ-loop
     sub-last
     loop-holds
-    skip-requires
+    pass-requires
     slice-aggregate-bytes-at
     bytes-at-requires
     returns
-    skip-requires-2
+    pass-requires-2
     add-i
     loop-less
     loop-again
-    skip-requires-3
+    pass-requires-3
     byte-at-requires
     returns-2)

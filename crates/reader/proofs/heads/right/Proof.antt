@@ -18,7 +18,7 @@ mbs-width-requires : tie.Need-mbs-width-requires
 mbs-width-requires c κs = search needs
 
 mul-n : tie.Need-mul-n
-mul-n c = omega (arith, length-by (sequenceOf (c .before .before .before .before .args .q)) _ _ _ (c .before .before .before .before .pre .1 .0) (c .before .mbs-height .ensures) (c .mbs-width .ensures) (c .before .before .mb-bytes .ensures) .mbs)
+mul-n c = omega (arith, length-by (sequenceOf (c .before .before .before .before .args .q)) _ _ _ (c .before .before .before .before .pre .1 .0 .0) (c .before .mbs-height .ensures) (c .mbs-width .ensures) (c .before .before .mb-bytes .ensures) .mbs)
 
 add-bytes-at : tie.Need-add-bytes-at
 add-bytes-at c = search needs
@@ -30,7 +30,7 @@ bytes-at-requires : tie.Need-bytes-at-requires
 bytes-at-requires c κs =
     let s = c .before .before .before .before .before in
     let t = unit-stands (s .pre .0) in
-    ((t .low, (t .high, t .inside)), right-room (s .pre .1 .0) (s .pre .0) (s .pre .1 .1))
+    ((t .low, (t .high, t .inside)), right-room (s .pre .1 .0 .0) (s .pre .0) (s .pre .1 .0 .1))
 
 returns : tie.Need-returns
 returns c = right-not _ _ (c .before .before .before .before .before .before .before .pre .0) (c .before .bytes-at .ensures) (not-true _ (c .if1 .taken))
@@ -42,13 +42,13 @@ skip-requires : tie.Need-skip-requires
 skip-requires c κs =
     let s = c .before .before .before .before .before .before .before in
     let t = unit-stands (s .pre .0) in
-    ((t .low, t .high, t .inside), right-room (s .pre .1 .0) (s .pre .0) (s .pre .1 .1))
+    ((t .low, t .high, t .inside), right-room (s .pre .1 .0 .0) (s .pre .0) (s .pre .1 .0 .1))
 
 heads-requires : tie.Need-heads-requires
 heads-requires c κs =
     let s = c .before .before .before .before .before .before .before .before in
     let z : Sized (sequenceOf (s .args .q)) _ _ _ = record { high = c .before .before .before .before .before .mbs-height .ensures; wide = c .before .before .before .before .mbs-width .ensures; bytes = c .before .before .before .before .before .before .mb-bytes .ensures } in
-    (right-first (s .pre .0) (c .skip .ensures), right-long (s .pre .1 .0) z (payloadAt (s .args .s .now) (s .args .o) (s .args .e)) (s .pre .1 .1))
+    (right-first (s .pre .0) (c .skip .ensures), (right-long (s .pre .1 .0 .0) z (payloadAt (s .args .s .now) (s .args .o) (s .args .e)) (s .pre .1 .0 .1), s .pre .1 .1))
 
 returns-2 : tie.Need-returns-2
 returns-2 c =
