@@ -161,6 +161,21 @@ pub fn rubble(noise: &mut Noise) -> Vec<u8> {
     bytes
 }
 
+/// What a stretch of a take is replaced by: rubble, often behind a start code or a parameter set.
+pub fn damage(noise: &mut Noise) -> Vec<u8> {
+    let mut bytes = Vec::new();
+    let set = noise.once_in(6);
+    if set || noise.once_in(6) {
+        bytes.extend(start_code(noise));
+    }
+    if set {
+        let shape = shape(noise, 40);
+        bytes.extend(parameter_set(noise, &shape));
+    }
+    bytes.extend(rubble(noise));
+    bytes
+}
+
 /// A start code, now and then with zeros more than it needs.
 pub fn start_code(noise: &mut Noise) -> Vec<u8> {
     let mut code = vec![0; noise.pick(&[2, 3, 3, 3, 6])];

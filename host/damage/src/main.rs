@@ -205,50 +205,21 @@ impl Run {
 
         let (begin, end) = stretch(noise, &take.bytes, whole[2].answer[1] as usize);
         let mut damaged = take.bytes[..begin].to_vec();
-        match noise.below(6) {
-            0 => damaged.extend(draw::start_code(noise)),
-            1 => {
-                damaged.extend(draw::start_code(noise));
-                let other = draw::shape(noise, 40);
-                damaged.extend(draw::parameter_set(noise, &other));
-            }
-            _ => {}
-        }
-        damaged.extend(draw::rubble(noise));
-        let shift = damaged.len() as i64 - end as i64;
+        damaged.extend(draw::damage(noise));
+        let shift = (damaged.len() as u64).wrapping_sub(end as u64);
         damaged.extend(&take.bytes[end..]);
         let all = self.read(&damaged, [0; 8], lengths)?;
 
         let Some(first) = plain::start_code(&take.bytes, end) else { return Ok(()) };
-        let is_behind = |left: &&Left, first: i64| {
-            left.answer[0] != END && left.answer[1] as i64 >= first + 3 && left.answer[6] != 10
-        };
-        let before: Vec<&Left> =
-            whole.iter().filter(|left| is_behind(left, first as i64)).collect();
-        let after: Vec<&Left> =
-            all.iter().filter(|left| is_behind(left, first as i64 + shift)).collect();
-        if before.len() != after.len() {
-            return Err(format!(
-                "{shape:?}, bytes {begin} to {end} replaced: {} units behind, not {}",
-                after.len(),
-                before.len()
-            ));
-        }
-        for (before, after) in before.iter().zip(&after) {
-            let mut wanted = before.answer;
-            wanted[1] = (wanted[1] as i64 + shift) as u64;
-            let index = whole.iter().position(|left| left.answer == before.answer);
-            let written = index.and_then(|index| take.pictures.get(index - 2));
-            let written = written.ok_or("no picture behind the stretch")?;
-            if after.answer != wanted {
-                return Err(format!(
-                    "{shape:?}, bytes {begin} to {end} replaced: {:?}, not {wanted:?}",
-                    after.answer
-                ));
-            }
-            is_picture(after, written)?;
-            self.behind_damage += 1;
-        }
+        let behind = whole.iter().filter(|left| left.answer[1] >= first as u64 + 3).count();
+        is_shifted(&whole, &all, behind, shift)
+            .and_then(|()| {
+                let last = &all[all.len() - 1 - behind..];
+                let written = &take.pictures[take.pictures.len() - behind..];
+                last.iter().zip(written).try_for_each(|(left, written)| is_picture(left, written))
+            })
+            .map_err(|what| format!("{shape:?}, bytes {begin} to {end} replaced: {what}"))?;
+        self.behind_damage += behind as u64;
         Ok(())
     }
 
@@ -440,6 +411,34 @@ fn stretch(noise: &mut Noise, take: &[u8], first: usize) -> (usize, usize) {
         end = near(noise, end);
     }
     (begin, end.clamp(begin, length))
+}
+
+/// Whether the last answers of a damaged take, `behind` of them and the end, are those of the whole
+/// one, with their places shifted, and no answer more begins behind the first of them.
+fn is_shifted(whole: &[Left], all: &[Left], behind: usize, shift: u64) -> Outcome<()> {
+    let tail = |all: &[Left], shift: u64| -> Vec<(Words, Words)> {
+        let front = all.len().saturating_sub(behind + 1);
+        let shifted = |mut words: Words, place: usize| {
+            words[place] = words[place].wrapping_add(shift);
+            words
+        };
+        let of = |left: &Left| match left.answer[0] {
+            END => (left.answer, shifted(left.reader, 0)),
+            _ => (shifted(left.answer, 1), shifted(left.reader, 0)),
+        };
+        all[front..].iter().map(of).collect()
+    };
+    let (wanted, found) = (tail(whole, shift), tail(all, 0));
+    if found != wanted {
+        return Err(format!("{found:?} behind it, not {wanted:?}"));
+    }
+    let front = &all[..all.len() - behind - 1];
+    match (front.last(), found[0].0) {
+        (Some(last), [what, first, ..]) if what != END && last.answer[1] >= first => {
+            Err(format!("{:?} before {:?}", last.answer, found[0].0))
+        }
+        _ => Ok(()),
+    }
 }
 
 /// Whether an answer is a picture with the samples written.
