@@ -272,12 +272,20 @@ pub fn cases() -> Vec<Case> {
     add("17: a byte short", &[CODE, &bright[..261]], HELD, ENOUGH, refused(17, 3), at(264, HELD));
     add("17: before 18", &[CODE, &[0x25, 0x89]], HELD, ENOUGH, refused(17, 3), at(5, HELD));
     add(
-        "17: two zeros short of three, as 00 00 03",
+        "17: two bytes short, the last two zeros as 00 00 03",
         &[CODE, &bright[..258], &[0, 0, 3]],
         HELD,
         ENOUGH,
         refused(17, 3),
         at(264, HELD),
+    );
+    add(
+        "17: a byte short, the last two zeros as 00 00 03",
+        &[CODE, &bright[..259], &[0, 0, 3]],
+        HELD,
+        ENOUGH,
+        refused(17, 3),
+        at(265, HELD),
     );
     add(
         "17: short by trailing zeros",

@@ -382,7 +382,7 @@ impl Run {
 fn limit_shape(case: u64) -> Shape {
     let (colour, depth) = [(0, 8), (0, 12), (1, 8), (1, 12)][case as usize % 4];
     let (long, short) = (16_384 - case / 8 * 4, 2);
-    let (width, height) = if case / 4 % 2 == 0 { (long, short) } else { (4, long) };
+    let (width, height) = if case & 4 == 0 { (long, short) } else { (4, long) };
     Shape { width, height, colour, depth }
 }
 
