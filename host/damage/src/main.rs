@@ -30,11 +30,11 @@ struct Part {
     run: fn(&mut Run, &mut Noise, u64) -> Outcome<()>,
 }
 
-const PARTS: [Part; 9] = [
+const PARTS: [Part; 10] = [
     // Calls whose answers are written down.
     Part { name: "table", cases: 1, run: |run, _, _| run.table() },
-    // Takes as the writer leaves them, small ones and a few of the largest sizes.
-    Part { name: "takes", cases: 6000, run: Run::whole_take },
+    // Takes as the writer leaves them.
+    Part { name: "takes", cases: 6000, run: |run, noise, _| run.small_take(noise) },
     // Every cut of a small take.
     Part { name: "cuts", cases: 120, run: |run, noise, _| run.cuts(noise) },
     // Takes with a stretch replaced.
@@ -49,6 +49,8 @@ const PARTS: [Part; 9] = [
     Part { name: "pictures", cases: 15_000, run: |run, noise, _| run.pictures(noise) },
     // Escaping and codes.
     Part { name: "codes", cases: 100_000, run: |run, noise, _| run.codes(noise) },
+    // Takes of the largest widths and heights.
+    Part { name: "limits", cases: 12, run: Run::limit_take },
 ];
 
 /// Answers as they are counted: what they are, and a refusal's number.
@@ -133,13 +135,19 @@ impl Run {
         Ok(())
     }
 
-    /// A take of some pictures is read as what was written.
-    fn whole_take(&mut self, noise: &mut Noise, case: u64) -> Outcome<()> {
-        let shape = match case {
-            0..12 => limit_shape(case),
-            _ => draw::shape(noise, 40),
-        };
-        let pictures = if case < 12 { 1 } else { 1 + noise.below(4) };
+    /// A take of some small pictures is read as what was written.
+    fn small_take(&mut self, noise: &mut Noise) -> Outcome<()> {
+        let shape = draw::shape(noise, 40);
+        let pictures = 1 + noise.below(4);
+        self.whole_take(noise, shape, pictures)
+    }
+
+    /// So is one of a large picture.
+    fn limit_take(&mut self, noise: &mut Noise, case: u64) -> Outcome<()> {
+        self.whole_take(noise, limit_shape(case), 1)
+    }
+
+    fn whole_take(&mut self, noise: &mut Noise, shape: Shape, pictures: u64) -> Outcome<()> {
         let take = draw::take(noise, shape, pictures)?;
         let lengths = draw::enough(noise, &shape);
         let all = self.read(&take.bytes, [0; 8], lengths)?;
@@ -378,7 +386,7 @@ impl Run {
     }
 }
 
-/// The largest width or height of each kind, and the next smaller ones.
+/// The largest width or height of each kind, or one that is 4 less.
 fn limit_shape(case: u64) -> Shape {
     let (colour, depth) = [(0, 8), (0, 12), (1, 8), (1, 12)][case as usize % 4];
     let (long, short) = (16_384 - case / 8 * 4, 2);
