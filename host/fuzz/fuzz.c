@@ -82,7 +82,7 @@ static void place(struct lent *l, size_t length) {
     l->length = length;
     l->by_malloc = below(4) == 0;
     if (l->by_malloc) {
-        l->bytes = malloc(length ? length : 1);
+        l->bytes = malloc(length);
         if (!l->bytes) exit(2);
         return;
     }
@@ -95,7 +95,8 @@ static void place(struct lent *l, size_t length) {
 static void check_canaries(const struct lent *l) {
     if (l->by_malloc) return;
     const uint8_t *begin = l->pages + PAGE, *end = begin + ROOM;
-    for (const uint8_t *p = l->bytes - MARGIN; p < l->bytes; p++) if (p >= begin && *p != CANARY) fail("a byte before a buffer was changed");
+    for (const uint8_t *p = l->bytes - MARGIN; p < l->bytes; p++)
+        if (p >= begin && *p != CANARY) fail("a byte before a buffer was changed");
     for (const uint8_t *p = l->bytes + l->length; p < l->bytes + l->length + MARGIN && p < end; p++)
         if (*p != CANARY) fail("a byte behind a buffer was changed");
 }
