@@ -1,7 +1,7 @@
-//! The library's two exports, as `include/reelpony.h` declares them, and the only unsafe code.
+//! The library's exports, as `include/reelpony.h` declares them, and the only unsafe code.
 //!
-//! [`start`] and [`next`] take the numbers as the exports do, so that a test can pass a colour or a
-//! depth that doesn't exist. Other callers use those of the crate itself.
+//! The functions here take numbers as the exports do, so that a test can pass a colour, a depth or
+//! a reader's state that doesn't exist. Other callers use those of the crate itself.
 
 extern "C" {
     fn reelpony_start(
@@ -47,6 +47,67 @@ extern "C" {
         session: &mut [u32; 8],
         length: &mut u64,
     ) -> u32;
+
+    fn reelpony_read(
+        take: *const u8,
+        take_len: usize,
+        y: *mut u8,
+        y_len: usize,
+        cb: *mut u8,
+        cb_len: usize,
+        cr: *mut u8,
+        cr_len: usize,
+        reader: &mut [u64; 8],
+        answer: &mut [u64; 8],
+    ) -> u32;
+
+    fn reelpony_escape(
+        payload: *const u8,
+        payload_len: usize,
+        out: *mut u8,
+        out_len: usize,
+        length: &mut u64,
+    ) -> u32;
+
+    fn reelpony_unescape(
+        payload: *const u8,
+        payload_len: usize,
+        out: *mut u8,
+        out_len: usize,
+        length: &mut u64,
+    ) -> u32;
+
+    fn reelpony_write_ue(
+        buffer: *mut u8,
+        buffer_len: usize,
+        place: u64,
+        x: u32,
+        behind: &mut u64,
+    ) -> u32;
+
+    fn reelpony_write_se(
+        buffer: *mut u8,
+        buffer_len: usize,
+        place: u64,
+        x: i32,
+        behind: &mut u64,
+    ) -> u32;
+
+    fn reelpony_read_ue(
+        payload: *const u8,
+        payload_len: usize,
+        place: u64,
+        x: &mut u32,
+        behind: &mut u64,
+    ) -> u32;
+
+    fn reelpony_read_se(
+        payload: *const u8,
+        payload_len: usize,
+        place: u64,
+        x: &mut i32,
+        behind: &mut u64,
+    ) -> u32;
 }
 
 /// A plane with its depth as a number.
@@ -73,13 +134,34 @@ pub struct Picture<'a> {
     pub planes: [Plane<'a>; 3],
 }
 
-/// What a call answers.
+/// What a call that writes bytes answers.
 #[derive(Clone, Copy, Debug, PartialEq, Eq)]
 pub struct Answer {
     /// 0 for accepted, otherwise the refusal.
     pub number: u32,
     /// The length written, or needed with refusal 9, or 0.
     pub length: u64,
+}
+
+/// What a call of the reader answers.
+#[derive(Clone, Copy, Debug, PartialEq, Eq)]
+pub struct ReadAnswer {
+    /// 0 for none, otherwise the refusal.
+    pub number: u32,
+    /// What it is (0 end, 1 SPS, 2 PPS, 3 picture, 4 refusal), its offset, an SPS's width, height,
+    /// colour and depth, the refusal's number, and a spare one. What an answer doesn't have is 0.
+    pub words: [u64; 8],
+}
+
+/// What a call on one code answers.
+#[derive(Clone, Copy, Debug, PartialEq, Eq)]
+pub struct CodeAnswer<T> {
+    /// 0 for accepted, otherwise the refusal.
+    pub number: u32,
+    /// The number of the code, where one was read.
+    pub x: T,
+    /// The place behind the code; refused: the place given.
+    pub behind: u64,
 }
 
 /// `reelpony_start`: parameter sets and a first picture.
@@ -127,6 +209,85 @@ fn call(next: bool, picture: &Picture, out: &mut [u8], session: &mut [u32; 8]) -
     Answer { number, length }
 }
 
+/// `reelpony_read`: the next thing in a take. The state is the place, whether an SPS is held, its
+/// width, height, colour and depth, whether a PPS is held, and a spare number. The answer begins
+/// as words that no call gives.
+pub fn read(take: &[u8], planes: [&mut [u8]; 3], reader: &mut [u64; 8]) -> ReadAnswer {
+    let [y, cb, cr] = planes;
+    let mut words = [u64::MAX; 8];
+    // Sound for any numbers and bytes: as above, and the take is only read.
+    let number = unsafe {
+        reelpony_read(
+            take.as_ptr(),
+            take.len(),
+            y.as_mut_ptr(),
+            y.len(),
+            cb.as_mut_ptr(),
+            cb.len(),
+            cr.as_mut_ptr(),
+            cr.len(),
+            reader,
+            &mut words,
+        )
+    };
+    ReadAnswer { number, words }
+}
+
+/// `reelpony_escape`: a payload with the bytes inserted that keep start codes out of it.
+pub fn escape(payload: &[u8], out: &mut [u8]) -> Answer {
+    let mut length = u64::MAX;
+    let (from, to) = (payload.as_ptr(), out.as_mut_ptr());
+    // Sound: as above.
+    let number = unsafe { reelpony_escape(from, payload.len(), to, out.len(), &mut length) };
+    Answer { number, length }
+}
+
+/// `reelpony_unescape`: a payload without them.
+pub fn unescape(payload: &[u8], out: &mut [u8]) -> Answer {
+    let mut length = u64::MAX;
+    let (from, to) = (payload.as_ptr(), out.as_mut_ptr());
+    // Sound: as above.
+    let number = unsafe { reelpony_unescape(from, payload.len(), to, out.len(), &mut length) };
+    Answer { number, length }
+}
+
+/// `reelpony_write_ue`: the unsigned code of a number, at a bit place.
+pub fn write_ue(buffer: &mut [u8], place: u64, x: u32) -> CodeAnswer<()> {
+    let mut behind = u64::MAX;
+    let (begin, length) = (buffer.as_mut_ptr(), buffer.len());
+    // Sound: as above, for any place.
+    let number = unsafe { reelpony_write_ue(begin, length, place, x, &mut behind) };
+    CodeAnswer { number, x: (), behind }
+}
+
+/// `reelpony_write_se`: the signed code.
+pub fn write_se(buffer: &mut [u8], place: u64, x: i32) -> CodeAnswer<()> {
+    let mut behind = u64::MAX;
+    let (begin, length) = (buffer.as_mut_ptr(), buffer.len());
+    // Sound: as above, for any place.
+    let number = unsafe { reelpony_write_se(begin, length, place, x, &mut behind) };
+    CodeAnswer { number, x: (), behind }
+}
+
+/// `reelpony_read_ue`: the number whose unsigned code stands at a bit place. `x` is what a refusal
+/// leaves.
+pub fn read_ue(payload: &[u8], place: u64, mut x: u32) -> CodeAnswer<u32> {
+    let mut behind = u64::MAX;
+    let (begin, length) = (payload.as_ptr(), payload.len());
+    // Sound: as above, for any place.
+    let number = unsafe { reelpony_read_ue(begin, length, place, &mut x, &mut behind) };
+    CodeAnswer { number, x, behind }
+}
+
+/// `reelpony_read_se`: the same for the signed code.
+pub fn read_se(payload: &[u8], place: u64, mut x: i32) -> CodeAnswer<i32> {
+    let mut behind = u64::MAX;
+    let (begin, length) = (payload.as_ptr(), payload.len());
+    // Sound: as above, for any place.
+    let number = unsafe { reelpony_read_se(begin, length, place, &mut x, &mut behind) };
+    CodeAnswer { number, x, behind }
+}
+
 /// The linker compares names alone, so this holds the declarations above to the header's.
 #[cfg(test)]
 mod tests {
@@ -168,11 +329,16 @@ mod tests {
         let (name, length) = name.split_once('[').unwrap_or((name, ""));
         let rust_type = match (c_type.trim(), length.trim_end_matches(']')) {
             ("uint32_t", "") => "u32".to_string(),
+            ("int32_t", "") => "i32".to_string(),
+            ("uint64_t", "") => "u64".to_string(),
             ("size_t", "") => "usize".to_string(),
             ("const uint8_t *", "") => "*const u8".to_string(),
             ("uint8_t *", "") => "*mut u8".to_string(),
+            ("uint32_t *", "") => "&mut u32".to_string(),
+            ("int32_t *", "") => "&mut i32".to_string(),
             ("uint64_t *", "") => "&mut u64".to_string(),
             ("uint32_t", length) => format!("&mut [u32; {length}]"),
+            ("uint64_t", length) => format!("&mut [u64; {length}]"),
             other => panic!("a type of the header that this test doesn't know: {other:?}"),
         };
         (name.to_string(), rust_type)
@@ -187,18 +353,22 @@ mod tests {
     #[test]
     fn declarations_are_the_headers() {
         let header = without_comments(include_str!("../../../include/reelpony.h"));
-        assert_eq!(header.matches("reelpony_").count(), 2, "functions");
         let source = include_str!("ffi.rs").split("\n}").next().unwrap();
+        let mentions = [&header, source].map(|text| text.matches(" reelpony_").count());
 
-        let header = functions(&header, "uint32_t reelpony_", ");", from_c);
-        let source = functions(source, "fn reelpony_", ") -> u32;", from_rust);
-        assert_eq!(header.len(), 2);
-        assert_eq!(source.len(), 2);
-        for ((c_name, c), (rust_name, rust)) in header.iter().zip(&source) {
-            assert_eq!(rust_name, c_name);
-            assert_eq!(rust.len(), c.len(), "parameters of {c_name}");
+        let mut header = functions(&header, "uint32_t reelpony_", ");", from_c);
+        let mut source = functions(source, "fn reelpony_", ") -> u32;", from_rust);
+        assert_eq!([header.len(), source.len()], mentions, "functions that were found");
+        header.sort();
+        source.sort();
+        let names = |functions: &[(String, Vec<Parameter>)]| -> Vec<String> {
+            functions.iter().map(|(name, _)| name.clone()).collect()
+        };
+        assert_eq!(names(&source), names(&header));
+        for ((name, c), (_, rust)) in header.iter().zip(&source) {
+            assert_eq!(rust.len(), c.len(), "parameters of {name}");
             for (c, rust) in c.iter().zip(rust) {
-                assert_eq!(rust, c, "a parameter of {c_name}");
+                assert_eq!(rust, c, "a parameter of {name}");
             }
         }
     }

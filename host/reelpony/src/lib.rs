@@ -1,8 +1,9 @@
-//! Reelpony's writer: each picture of a take as one uncompressed H.264 picture (I_PCM).
+//! Reelpony: each picture of a take written as one uncompressed H.264 picture (I_PCM), and read
+//! back.
 //!
 //! A thin, safe layer over the proved library `libreelpony.a`: types for its numbers, and nothing
 //! else. [`start`] writes the parameter sets and the first picture of a take, [`next`] one more;
-//! a take is their bytes, one behind the other.
+//! a take is their bytes, one behind the other. A [`Reader`] goes through a take unit by unit.
 //!
 //! ```
 //! use reelpony::ycbcr_image::{DataPlane, Planes, YCbCrImage};
@@ -22,8 +23,23 @@
 //! let (length, mut session) = start(&image, &mut out)?;
 //! assert_eq!(length, 286);
 //! let refusal = next(&mut session, &image, &mut []).unwrap_err();
-//! let mut out = vec![0; refusal.needed().unwrap()];
-//! assert_eq!(next(&mut session, &image, &mut out)?, out.len());
+//! let mut more = vec![0; refusal.needed().unwrap()];
+//! assert_eq!(next(&mut session, &image, &mut more)?, more.len());
+//!
+//! use reelpony::reader::{Answer, PlanesMut, Reader};
+//!
+//! let take = &out[..length];
+//! let mut reader = Reader::new();
+//! let Answer::Sps { sps, .. } = reader.read(take, PlanesMut::none()) else { panic!() };
+//! let [mut y, mut cb, mut cr] = sps.plane_lengths().map(|length| vec![0; length]);
+//! loop {
+//!     let planes = PlanesMut { y: &mut y, cb: &mut cb, cr: &mut cr };
+//!     match reader.read(take, planes) {
+//!         Answer::Picture { .. } => assert_eq!(y, samples),
+//!         Answer::End => break,
+//!         _ => {}
+//!     }
+//! }
 //! # Ok::<(), reelpony::Refusal>(())
 //! ```
 
@@ -31,9 +47,13 @@
 
 #[allow(unsafe_code)]
 pub mod ffi;
+pub mod golomb;
+pub mod nal_unit;
+pub mod reader;
 mod refusal;
 pub mod ycbcr_image;
 
+pub use reader::Reader;
 pub use refusal::Refusal;
 use ycbcr_image::YCbCrImage;
 
@@ -78,6 +98,6 @@ pub fn next(session: &mut Session, image: &YCbCrImage, out: &mut [u8]) -> Result
 fn length(answer: ffi::Answer) -> Result<usize, Refusal> {
     match answer.number {
         0 => Ok(answer.length as usize),
-        _ => Err(Refusal::of(answer)),
+        number => Err(Refusal::of(number, answer.length)),
     }
 }

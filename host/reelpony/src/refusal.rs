@@ -2,9 +2,7 @@
 
 use std::fmt;
 
-use crate::ffi::Answer;
-
-/// A refusal. It left the output and the session as they were.
+/// A refusal. It left what was lent as it was: the output and the session, the planes, the buffer.
 #[derive(Clone, Copy, Debug, PartialEq, Eq)]
 pub enum Refusal {
     /// 1: the width or the height is 0 or over 16,384.
@@ -28,6 +26,32 @@ pub enum Refusal {
         /// The exact length that the call's bytes have.
         needed: usize,
     },
+    /// 10: bytes other than zeros that no start code stands before.
+    Stray,
+    /// 11: a start code with no unit behind it.
+    Empty,
+    /// 12: three bytes that escaping leaves nowhere.
+    Escaping,
+    /// 13: a unit that is neither a parameter set nor a picture.
+    Header,
+    /// 14: a parameter set that the writer writes for no size and kind.
+    ParameterSet,
+    /// 15: a sequence parameter set other than the one that is held.
+    OtherThanHeld,
+    /// 16: a picture before both parameter sets.
+    NothingHeld,
+    /// 17: a picture that is cut short.
+    PictureShort,
+    /// 18: a picture that is too long, or whose bytes around the samples are others.
+    PictureForm,
+    /// 19: a plane is too short for the picture; the same call with longer ones reads it.
+    Planes,
+    /// 20: a number that has no code.
+    NoCode,
+    /// 21: no room for the code or the bytes.
+    NoRoom,
+    /// 22: no whole code stands at the place, or one with over 31 zeros in front.
+    NotACode,
     /// 99: a colour or a depth that doesn't exist; only [`crate::ffi`] can pass one.
     Format,
     /// A number that the header doesn't list: another library was linked.
@@ -35,9 +59,9 @@ pub enum Refusal {
 }
 
 impl Refusal {
-    /// The refusal that an answer other than 0 gives.
-    pub(crate) fn of(answer: Answer) -> Refusal {
-        match answer.number {
+    /// The refusal of a number other than 0, 9 with the length that was answered.
+    pub(crate) fn of(number: u32, length: u64) -> Refusal {
+        match number {
             1 => Refusal::Size,
             2 => Refusal::Depths,
             3 => Refusal::Colour12Width,
@@ -46,7 +70,20 @@ impl Refusal {
             6 => Refusal::OtherThanSession,
             7 => Refusal::Stride,
             8 => Refusal::Rows,
-            9 => Refusal::Output { needed: answer.length as usize },
+            9 => Refusal::Output { needed: length as usize },
+            10 => Refusal::Stray,
+            11 => Refusal::Empty,
+            12 => Refusal::Escaping,
+            13 => Refusal::Header,
+            14 => Refusal::ParameterSet,
+            15 => Refusal::OtherThanHeld,
+            16 => Refusal::NothingHeld,
+            17 => Refusal::PictureShort,
+            18 => Refusal::PictureForm,
+            19 => Refusal::Planes,
+            20 => Refusal::NoCode,
+            21 => Refusal::NoRoom,
+            22 => Refusal::NotACode,
             99 => Refusal::Format,
             number => Refusal::Unknown(number),
         }
@@ -64,6 +101,19 @@ impl Refusal {
             Refusal::Stride => 7,
             Refusal::Rows => 8,
             Refusal::Output { .. } => 9,
+            Refusal::Stray => 10,
+            Refusal::Empty => 11,
+            Refusal::Escaping => 12,
+            Refusal::Header => 13,
+            Refusal::ParameterSet => 14,
+            Refusal::OtherThanHeld => 15,
+            Refusal::NothingHeld => 16,
+            Refusal::PictureShort => 17,
+            Refusal::PictureForm => 18,
+            Refusal::Planes => 19,
+            Refusal::NoCode => 20,
+            Refusal::NoRoom => 21,
+            Refusal::NotACode => 22,
             Refusal::Format => 99,
             Refusal::Unknown(number) => number,
         }
@@ -95,6 +145,19 @@ impl fmt::Display for Refusal {
             Refusal::Output { needed } => {
                 return write!(f, "the output is too short: {needed} bytes are needed")
             }
+            Refusal::Stray => "there are bytes before the next start code that are no unit",
+            Refusal::Empty => "there is nothing behind the start code",
+            Refusal::Escaping => "the bytes are not escaped as a unit's are",
+            Refusal::Header => "the unit is neither a parameter set nor a picture",
+            Refusal::ParameterSet => "the parameter set is not one that the writer writes",
+            Refusal::OtherThanHeld => "the sequence parameter set is not the one held",
+            Refusal::NothingHeld => "a picture came before both parameter sets",
+            Refusal::PictureShort => "the picture is cut short",
+            Refusal::PictureForm => "the picture is too long or not of the writer's form",
+            Refusal::Planes => "a plane is shorter than the picture's visible rows",
+            Refusal::NoCode => "the number has no code",
+            Refusal::NoRoom => "the buffer is too short",
+            Refusal::NotACode => "there is no whole code at the place",
             Refusal::Format => "the colour must be 0 or 1 and the depth 8 or 12",
             Refusal::Unknown(number) => {
                 return write!(f, "the library refused with the unknown number {number}")
@@ -113,8 +176,8 @@ mod tests {
     /// Every number of the header comes back from the refusal that it makes, 9 with its length.
     #[test]
     fn numbers_come_back() {
-        for number in [1, 2, 3, 4, 5, 6, 7, 8, 9, 99, 50] {
-            let refusal = Refusal::of(Answer { number, length: 286 });
+        for number in (1..=22).chain([99, 50]) {
+            let refusal = Refusal::of(number, 286);
             assert_eq!(refusal.number(), number);
             assert_eq!(refusal.needed(), (number == 9).then_some(286));
             assert_eq!(matches!(refusal, Refusal::Unknown(_)), number == 50);
