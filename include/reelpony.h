@@ -1,4 +1,4 @@
-/* reelpony.h: pictures into an H.264 byte stream, uncompressed (I_PCM).
+/* reelpony.h: pictures into an H.264 byte stream, uncompressed (I_PCM), and back.
  *
  * The library is target/staticlib/libreelpony.a, made by `rt staticlib reelpony` at the repository's root, for x86-64.
  * It allocates nothing, keeps nothing between calls, and touches nothing but what is lent to it.
@@ -9,6 +9,14 @@
  *     uint64_t length;
  *     uint32_t number = reelpony_start(width, height, 0, y, y_len, y_stride, 8, y, 0, 0, 8, y, 0, 0, 8, out, out_len, session, &length);
  *     if (number == 0) fwrite(out, 1, length, file);
+ *
+ * It is read by calls of reelpony_read until one answers End:
+ *
+ *     uint64_t reader[8] = {0}, answer[8];
+ *     do {
+ *         reelpony_read(take, take_len, y, y_len, cb, cb_len, cr, cr_len, reader, answer);
+ *         if (answer[0] == 3) show(y, cb, cr);
+ *     } while (answer[0] != 0);
  */
 #ifndef REELPONY_H
 #define REELPONY_H
@@ -67,6 +75,74 @@ uint32_t reelpony_next(uint32_t width, uint32_t height, uint32_t colour,
     const uint8_t *cb, size_t cb_len, size_t cb_stride, uint32_t cb_depth,
     const uint8_t *cr, size_t cr_len, size_t cr_stride, uint32_t cr_depth,
     uint8_t *out, size_t out_len, uint32_t session[8], uint64_t *length);
+
+/* Answers one thing about the bytes from the reader's place on: a unit, bytes that belong to none, or the end.
+ *
+ * take        the bytes of a file, or of a part of one; any bytes. A start code is 00 00 01; a unit runs to the next one or the end, less its
+ *             trailing zeros. Zeros before a start code or the end are skipped.
+ * y, cb, cr   the planes that a picture is written to, each with its length in bytes: visible rows alone, one behind the other, from the first byte on.
+ *             Bytes behind them stay as they were. Monochrome touches neither cb nor cr. Every answer but a picture leaves all three as they were.
+ * reader      where the reading stands: [0] the place; [1] whether a sequence parameter set (SPS) is held, 0 or 1, and its [2] width, [3] height,
+ *             [4] colour, [5] depth; [6] whether a picture parameter set (PPS) is held, 0 or 1; [7] is spare. All zero: a reading that has not begun.
+ *             Any numbers are taken; a state that no call leaves (another flag, a size or kind that no SPS gives) counts as holding nothing.
+ *             The place moves behind what was answered; only an SPS or a PPS changes [1] to [6]; [7] never changes.
+ * answer      [0] what it is: 0 End, 1 SPS, 2 PPS, 3 picture, 4 refusal; [1] the offset where its bytes begin, behind the start code (for 10, the
+ *             place); of an SPS [2] width, [3] height, [4] colour, [5] depth; [6] the refusal's number; [7] is spare. What an answer doesn't have is 0.
+ *
+ * The result is the refusal's number, or 0. Tested in this order; a refusal moves on, so the next call goes on behind it, but 19 keeps the place:
+ *
+ *  10   bytes from the place to the next start code or the end, not all zero
+ *  11   the unit is empty
+ *  12   it holds 00 00 00, 00 00 02, or 00 00 03 with a byte over 03 behind
+ *  13   its first byte is not 67, 68 or 25
+ *  14   a parameter set that is none of those that reelpony_start writes
+ *  15   an SPS unlike the one held
+ *  16   a picture while SPS or PPS is missing
+ *  17   a picture's payload is shorter than its exact length
+ *  18   it is longer, or a header, alignment, macroblock header or last byte differs
+ *  19   a lent plane that the kind uses is shorter than reelpony_plane_len says; the call can be repeated with a longer one
+ *
+ * End keeps the place, so that the reading can go on when more bytes are there. No pointer may be null; the planes, the reader and the answer must not
+ * overlap each other or the take. */
+uint32_t reelpony_read(const uint8_t *take, size_t take_len,
+    uint8_t *y, size_t y_len, uint8_t *cb, size_t cb_len, uint8_t *cr, size_t cr_len,
+    uint64_t reader[8], uint64_t answer[8]);
+
+/* The length that a plane (0 Y, 1 Cb, 2 Cr) must have for a picture while this reader's SPS is held. 0 where the kind has no such plane, or none is held. */
+uint64_t reelpony_plane_len(const uint64_t reader[8], uint32_t plane);
+
+/* The pieces of writing and reading. The rules above for pointers hold here too: none may be null, and what is written to must not overlap anything else
+ * that is lent. The answer is 0, accepted, or the number of a refusal, which leaves the output, the buffer and x as they were.
+ *
+ *  12   unescaping: the bytes hold 00 00 00, 00 00 01, 00 00 02, or 00 00 03 with a byte over 03 behind
+ *  20   no code exists for the number: 2^32 - 1 unsigned, -2^31 signed
+ *  21   no room in the output or the buffer
+ *  22   no whole code stands at the place read, or it has more than 31 leading zeros
+ *
+ * 12 is tested before 21, and 20 before 21.
+ */
+
+/* Escapes a payload into out, from its first byte on: after two zero bytes of payload counted since the last inserted byte, a byte of 03 or less gets 03
+ * put before it. length: the length written, at most half as much again as the payload; on refusal 0. Bytes behind it stay as they were. Refusal: 21. */
+uint32_t reelpony_escape(const uint8_t *payload, size_t payload_len, uint8_t *out, size_t out_len, uint64_t *length);
+
+/* Takes the payload out of escaped bytes (without start code and header) into out, from its first byte on. length: the length written, never more than
+ * payload_len; on refusal 0. Bytes behind it stay as they were. A 00 00 03 at the end gives two zeros. Refusals: 12, 21. */
+uint32_t reelpony_unescape(const uint8_t *payload, size_t payload_len, uint8_t *out, size_t out_len, uint64_t *length);
+
+/* Writes the unsigned Exp-Golomb code of x, 0 to 2^32 - 2, at a bit place of the buffer: 0 is the first byte's most significant bit. No other bit is
+ * touched. behind: the place behind the code; on refusal the place given. Refusals: 20, 21. */
+uint32_t reelpony_write_ue(uint8_t *buffer, size_t buffer_len, uint64_t place, uint32_t x, uint64_t *behind);
+
+/* The same of the signed code of x, -(2^31 - 1) to 2^31 - 1. */
+uint32_t reelpony_write_se(uint8_t *buffer, size_t buffer_len, uint64_t place, int32_t x, uint64_t *behind);
+
+/* Reads the unsigned Exp-Golomb code at a bit place of the payload. x: its number; on refusal as it was. behind: the place behind the code; on refusal the
+ * place given. Refusal: 22. */
+uint32_t reelpony_read_ue(const uint8_t *payload, size_t payload_len, uint64_t place, uint32_t *x, uint64_t *behind);
+
+/* The same of the signed code there. */
+uint32_t reelpony_read_se(const uint8_t *payload, size_t payload_len, uint64_t place, int32_t *x, uint64_t *behind);
 
 #ifdef __cplusplus
 }

@@ -16,6 +16,7 @@ ghost use mathlib.Core.Bool.{true, false, cond};
 ghost use mathlib.Core.Option.{some};
 ghost use Prim.Native.Nat.{_+_, _≤_, _<_};
 ghost use lib.ListN.{length, drop, getD};
+ghost use Rattle.nal_unit.specs.Kept.{insCount};
 ghost use Rattle.nal_unit.specs.StartCode.{next};
 ghost use Rattle.nal_unit.specs.ScanCode.{unitOf};
 ghost use Rattle.parameter_sets.specs.Sps.{baseLevel};
@@ -28,11 +29,13 @@ ghost use Rattle.reader.specs.Heads.{UnitAt, payloadAt};
 ghost use Rattle.reader.specs.Read.{heldOf, rooms};
 ghost use Rattle.reader.specs.ReadCode.{Judged, Shown, spared};
 
-// A unit that a call has found: the place of the call, where the unit's bytes begin and stop, and the next start code or the end.
+// A unit that a call has found: the place of the call, where the unit's bytes begin and stop, a place from which on no inserted byte stands in it, and the
+// next start code or the end.
 pub struct Unit {
     pub place: usize,
     pub begin: usize,
     pub stop: usize,
+    pub calm: usize,
     pub next: usize,
 }
 
@@ -164,12 +167,13 @@ fn formless(s: &[u8], u: Unit, q: Session, n: usize, m: usize) -> bool
     requires { ⌜ UnitAt (now s) (u .begin) (u .stop) ⌝ }
     requires { ⌜ accepted (sequenceOf q) ≡ true ⌝ }
     requires { ⌜ (n ≡ length (payloadAt (now s) (u .begin) (u .stop))) × (m ≡ pictureLength (sequenceOf q)) × (m ≤ n) ⌝ }
+    requires { ⌜ insCount (now s) (u .calm) (u .stop) ≡ 0 ⌝ }
     ensures { λ r. ⌜ r ≡ formless (sequenceOf q) (payloadAt (now (s .entry)) (u .begin) (u .stop)) ⌝ }
 {
     if m < n {
         return true;
     }
-    !heads::right(s, u.begin, u.stop, q)
+    !heads::right(s, u.begin, u.stop, u.calm, q)
 }
 
 // A picture while both sets are held, of the size and kind q: 17 to 19, or its samples.
@@ -184,9 +188,10 @@ fn take_picture(
 ) -> Step
     requires { ⌜ UnitAt (now s) (u .begin) (u .stop) ⌝ }
     requires { ⌜ accepted (sequenceOf q) ≡ true ⌝ }
+    requires { ⌜ insCount (now s) (u .calm) (u .stop) ≡ 0 ⌝ }
     ensures { λ r. ⌜ Shown (pictureVerdict (rooms (now (y .entry)) (now (cb .entry)) (now (cr .entry))) (heldOf h) (sequenceOf q) (payloadAt (now (s .entry)) (u .begin) (u .stop))) (u .place) (u .begin) (u .next) r (now (y .entry)) (now (y .exit)) (now (cb .entry)) (now (cb .exit)) (now (cr .entry)) (now (cr .exit)) ⌝ }
 {
-    let n = taking::payload_len(s, u.begin, u.stop);
+    let n = taking::payload_len_to(s, u.begin, u.stop, u.calm);
     let m = slice::payload_len(q);
     if n < m {
         return refused(17, u, h);
@@ -226,6 +231,7 @@ fn sized_picture(
 ) -> Step
     requires { ⌜ UnitAt (now s) (u .begin) (u .stop) ⌝ }
     requires { ⌜ accepted (sequenceOf q) ≡ true ⌝ }
+    requires { ⌜ insCount (now s) (u .calm) (u .stop) ≡ 0 ⌝ }
     ensures { λ r. ⌜ Shown (heldVerdict (rooms (now (y .entry)) (now (cb .entry)) (now (cr .entry))) (heldOf h) (record { sps = some (sequenceOf q); pps = pps }) (payloadAt (now (s .entry)) (u .begin) (u .stop))) (u .place) (u .begin) (u .next) r (now (y .entry)) (now (y .exit)) (now (cb .entry)) (now (cb .exit)) (now (cr .entry)) (now (cr .exit)) ⌝ }
 {
     if !pps {
@@ -237,6 +243,7 @@ fn sized_picture(
 // A unit with the header of a picture.
 fn read_picture(s: &[u8], u: Unit, h: HeldSets, y: &mut [u8], cb: &mut [u8], cr: &mut [u8]) -> Step
     requires { ⌜ UnitAt (now s) (u .begin) (u .stop) ⌝ }
+    requires { ⌜ insCount (now s) (u .calm) (u .stop) ≡ 0 ⌝ }
     ensures { λ r. ⌜ Shown (heldVerdict (rooms (now (y .entry)) (now (cb .entry)) (now (cr .entry))) (heldOf h) (counted (heldOf h)) (payloadAt (now (s .entry)) (u .begin) (u .stop))) (u .place) (u .begin) (u .next) r (now (y .entry)) (now (y .exit)) (now (cb .entry)) (now (cb .exit)) (now (cr .entry)) (now (cr .exit)) ⌝ }
 {
     let c = counted(h);
@@ -250,6 +257,7 @@ fn read_picture(s: &[u8], u: Unit, h: HeldSets, y: &mut [u8], cb: &mut [u8], cr:
 // A unit without a fault, by its header: 13 where it is none of the three.
 fn read_payload(s: &[u8], u: Unit, h: HeldSets, y: &mut [u8], cb: &mut [u8], cr: &mut [u8]) -> Step
     requires { ⌜ (1 ≤ u .begin) × (u .begin < u .stop) × (u .stop ≤ length (now s)) ⌝ }
+    requires { ⌜ insCount (now s) (u .calm) (u .stop) ≡ 0 ⌝ }
     ensures { λ r. ⌜ Shown (unitVerdict (rooms (now (y .entry)) (now (cb .entry)) (now (cr .entry))) (heldOf h) (getD (now (s .entry)) (u .begin) 0) (payloadAt (now (s .entry)) (u .begin) (u .stop))) (u .place) (u .begin) (u .next) r (now (y .entry)) (now (y .exit)) (now (cb .entry)) (now (cb .exit)) (now (cr .entry)) (now (cr .exit)) ⌝ }
 {
     let begin = u.begin;
@@ -284,6 +292,7 @@ pub fn read_unit(
         place: p,
         begin: o,
         stop: found.stop,
+        calm: found.calm,
         next: found.end,
     };
     if found.stop <= o {

@@ -4,13 +4,13 @@
 use mathlib.Core.Path.{_≡_, refl, sym, ap, _∙_}
 use mathlib.Core.List.{List, [], _∷_}
 use mathlib.Core.Logic.{_⊎_, inl, inr}
-use mathlib.Core.Bool.{Bool, true, false, cond, not, _&&_, _||_, and-eq-true-iff, true≢false}
-use mathlib.Core.Option.{Option, none, some}
-use Prim.Native.Nat.{ℕ, zero, suc, _+_, _≤_, _<_}
+use mathlib.Core.Bool.{Bool, true, false, cond, _&&_, _||_, and-eq-true-iff, true≢false}
+use mathlib.Core.Option.{none, some}
+use Prim.Native.Nat.{ℕ, zero, suc, _+_, _≤_}
 use native.Mathlib.Omega.{arith}
 use lib.Dec.{leb, ltb, eqb}
 use lib.ListN.{getD, drop}
-use borrow.Author.Tests.{leb-true, le-leb, lt-leb, ltb-true, ltb-false, eqb-true, eq-eqb}
+use borrow.Author.Tests.{leb-true, le-leb, lt-leb, ltb-true, ltb-false, eqb-true}
 use Rattle.nal_unit.specs.Calls.{Say, ended, astray, said, at}
 use Rattle.ycbcr_image.specs.declared.BitDepth.{BitDepth}
 use Rattle.ycbcr_image.specs.declared.Kind.{Kind}
@@ -25,7 +25,7 @@ use Rattle.reader.specs.declared.HeldSets.{HeldSets}
 use Rattle.reader.specs.declared.Step.{Step}
 use Rattle.reader.specs.Judge.{Held, nothing, Word, sps, pps, picture, refused, possible, counted}
 use Rattle.reader.specs.Counted.{saysSet, Turned, turn-alike}
-use Rattle.reader.specs.Read.{Told, told, toldOf, heldOf, rooms, planeLength, Reads}
+use Rattle.reader.specs.Read.{told, toldOf, heldOf, rooms, planeLength, Reads}
 use Rattle.reelpony.specs.Numbers.{kindOf, bitDepthOf}
 use Rattle.reelpony.specs.Reading.{sequenceIn, heldIn, turnIn, numberTold, told8, sized8, held8, after8, ReadsIn}
 
@@ -83,9 +83,9 @@ possible-sized ws e =
 
 -- ---- what is held, as it counts
 
-module _ (ws : List ℕ) {h : HeldSets} where
+module _ (ws : List ℕ) where
   -- a flag is neither 0 nor 1
-  pub sets-flags : (ltb 1 (getD ws 1 0) || ltb 1 (getD ws 6 0)) ≡ true → heldOf h ≡ nothing → counted (heldOf h) ≡ counted (heldIn ws)
+  pub sets-flags : (ltb 1 (getD ws 1 0) || ltb 1 (getD ws 6 0)) ≡ true → {h : Held} → h ≡ nothing → counted h ≡ counted (heldIn ws)
   unfolding heldIn
   sets-flags t e = rw e (ap counted (rw (both (ltb 1 (getD ws 1 0)) refl t) refl))
     where
@@ -115,7 +115,7 @@ module _ (ws : List ℕ) {h : HeldSets} where
       by (suc (suc n)) l z = absurd (omega arith)
 
   -- of no size that can be looked at
-  pub sets-unsized : (ltb 1 (getD ws 1 0) || ltb 1 (getD ws 6 0)) ≡ false → (getD ws 1 0 ≡ 0 → ⊥) → {b : Bool} → b ≡ sized ws → b ≡ false → heldOf h ≡ nothing → counted (heldOf h) ≡ counted (heldIn ws)
+  pub sets-unsized : (ltb 1 (getD ws 1 0) || ltb 1 (getD ws 6 0)) ≡ false → (getD ws 1 0 ≡ 0 → ⊥) → {b : Bool} → b ≡ sized ws → b ≡ false → {h : Held} → h ≡ nothing → counted h ≡ counted (heldIn ws)
   unfolding counted
   sets-unsized t z f n e = rw (← has t z, e, not-possible (possible (sequenceIn ws)) refl) refl
     where
@@ -123,8 +123,8 @@ module _ (ws : List ℕ) {h : HeldSets} where
       not-possible true i = absurd (true≢false (sym (possible-sized ws i) ∙ (sym f ∙ n)))
       not-possible false i = i
 
-  pub sets-sized : (ltb 1 (getD ws 1 0) || ltb 1 (getD ws 6 0)) ≡ false → (getD ws 1 0 ≡ 0 → ⊥) → {s : Session} → sequenceOf s ≡ sequenceIn ws
-      → counted (record { sps = some (sequenceOf s); pps = eqb (getD ws 6 0) 1 }) ≡ counted (heldIn ws)
+  pub sets-sized : (ltb 1 (getD ws 1 0) || ltb 1 (getD ws 6 0)) ≡ false → (getD ws 1 0 ≡ 0 → ⊥) → {q : Sequence} → q ≡ sequenceIn ws
+      → counted (record { sps = some q; pps = eqb (getD ws 6 0) 1 }) ≡ counted (heldIn ws)
   sets-sized t z e = ap counted (rw e (has t z))
 
 -- ---- the numbers of a state
@@ -139,9 +139,9 @@ held-sized p h z e f w = w ∙ rw (e, f) refl
 
 -- ---- the call
 
-pub plane-as : (ws : List ℕ) (k : ℕ) {h : HeldSets} {n : ℕ} → counted (heldOf h) ≡ counted (heldIn ws) → n ≡ planeLength (heldOf h) k → n ≡ planeLength (heldIn ws) k
+pub plane-as : (ws : List ℕ) (k : ℕ) (h : Held) {n : ℕ} → counted h ≡ counted (heldIn ws) → n ≡ planeLength h k → n ≡ planeLength (heldIn ws) k
 unfolding planeLength
-plane-as ws k e f = f ∙ rw e refl
+plane-as ws k h e f = f ∙ rw e refl
 
 -- what is held is looked at only where a parameter set is answered
 after-held : (ws : List ℕ) (p m : ℕ) (h k : Held) (a : Say Word) → (saysSet a ≡ true → h ≡ k) → after8 ws (told (at p a)) m h ≡ after8 ws (told (at p a)) m k

@@ -3,7 +3,6 @@
 pub mod pieces;
 pub mod read;
 
-
 use encoder::Depths;
 use encoder::Encoded;
 use slice::Strides;

@@ -61,6 +61,8 @@ extern "C" {
         answer: &mut [u64; 8],
     ) -> u32;
 
+    fn reelpony_plane_len(reader: &[u64; 8], plane: u32) -> u64;
+
     fn reelpony_escape(
         payload: *const u8,
         payload_len: usize,
@@ -233,6 +235,12 @@ pub fn read(take: &[u8], planes: [&mut [u8]; 3], reader: &mut [u64; 8]) -> ReadA
     ReadAnswer { number, words }
 }
 
+/// `reelpony_plane_len`: the length that a plane must have for a picture in this state.
+pub fn plane_len(reader: &[u64; 8], plane: u32) -> u64 {
+    // Sound for any numbers: eight of them are read.
+    unsafe { reelpony_plane_len(reader, plane) }
+}
+
 /// `reelpony_escape`: a payload with the bytes inserted that keep start codes out of it.
 pub fn escape(payload: &[u8], out: &mut [u8]) -> Answer {
     let mut length = u64::MAX;
@@ -305,21 +313,24 @@ mod tests {
         kept + rest
     }
 
-    /// The functions whose text stands between `begin` and `end`: their names, the prefix
-    /// `reelpony_` left out, and their parameters. Rust's has a comma behind the last one.
+    /// A function's name, its parameters and its result.
+    type Function = (String, Vec<Parameter>, String);
+
+    /// The functions that a text declares, each up to its semicolon. Rust's have a comma behind the
+    /// last parameter where they take more than a line.
     fn functions(
         text: &str,
-        begin: &str,
-        end: &str,
         parameter: fn(&str) -> Parameter,
-    ) -> Vec<(String, Vec<Parameter>)> {
+        result: fn(&str, &str) -> String,
+    ) -> Vec<Function> {
         let function = |text: &str| {
-            let (text, _) = text.split_once(end).expect("an end");
-            let (name, parameters) = text.split_once('(').expect("a parenthesis");
+            let (before, text) = text.split_once(" reelpony_")?;
+            let (name, text) = text.split_once('(').expect("a parenthesis");
+            let (parameters, after) = text.rsplit_once(')').expect("its end");
             let parameters = parameters.trim().trim_end_matches(',').split(',');
-            (name.to_string(), parameters.map(parameter).collect())
+            Some((name.into(), parameters.map(parameter).collect(), result(before, after)))
         };
-        text.split(begin).skip(1).map(function).collect()
+        text.split(';').filter_map(function).collect()
     }
 
     /// `const uint8_t *y`, `uint32_t session[8]` and the like.
@@ -339,6 +350,7 @@ mod tests {
             ("uint64_t *", "") => "&mut u64".to_string(),
             ("uint32_t", length) => format!("&mut [u32; {length}]"),
             ("uint64_t", length) => format!("&mut [u64; {length}]"),
+            ("const uint64_t", length) => format!("&[u64; {length}]"),
             other => panic!("a type of the header that this test doesn't know: {other:?}"),
         };
         (name.to_string(), rust_type)
@@ -356,16 +368,22 @@ mod tests {
         let source = include_str!("ffi.rs").split("\n}").next().unwrap();
         let mentions = [&header, source].map(|text| text.matches(" reelpony_").count());
 
-        let mut header = functions(&header, "uint32_t reelpony_", ");", from_c);
-        let mut source = functions(source, "fn reelpony_", ") -> u32;", from_rust);
+        let c_result = |before: &str, _: &str| {
+            let (_, word) = before.rsplit_once('\n').expect("a line of its own");
+            word.replace("uint", "u").replace("_t", "")
+        };
+        let rust_result = |_: &str, after: &str| after.replace(" -> ", "");
+        let mut header = functions(&header, from_c, c_result);
+        let mut source = functions(source, from_rust, rust_result);
         assert_eq!([header.len(), source.len()], mentions, "functions that were found");
         header.sort();
         source.sort();
-        let names = |functions: &[(String, Vec<Parameter>)]| -> Vec<String> {
-            functions.iter().map(|(name, _)| name.clone()).collect()
+        let names = |functions: &[Function]| -> Vec<String> {
+            functions.iter().map(|(name, ..)| name.clone()).collect()
         };
         assert_eq!(names(&source), names(&header));
-        for ((name, c), (_, rust)) in header.iter().zip(&source) {
+        for ((name, c, c_result), (_, rust, rust_result)) in header.iter().zip(&source) {
+            assert_eq!(rust_result, c_result, "the result of {name}");
             assert_eq!(rust.len(), c.len(), "parameters of {name}");
             for (c, rust) in c.iter().zip(rust) {
                 assert_eq!(rust, c, "a parameter of {name}");

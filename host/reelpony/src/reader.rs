@@ -30,13 +30,10 @@ impl Sps {
     /// The bytes that a picture's visible rows have in Y, Cb and Cr, one behind the other without
     /// gaps. Planes of these lengths are enough. Monochrome has none in Cb and Cr.
     pub fn plane_lengths(&self) -> [usize; 3] {
-        let (width, height) = (self.width as usize, self.height as usize);
-        let length = |across: usize, down: usize| {
-            let row = across * usize::from(self.bit_depth.num_bits()) / 8;
-            row * down
-        };
-        let chroma = if self.colour { length(width / 2, height / 2) } else { 0 };
-        [length(width, height), chroma, chroma]
+        let [width, height] = [self.width, self.height].map(u64::from);
+        let depth = u64::from(self.bit_depth.num_bits());
+        let held = [0, 1, width, height, u64::from(self.colour), depth, 0, 0];
+        [0, 1, 2].map(|plane| ffi::plane_len(&held, plane) as usize)
     }
 }
 

@@ -21,7 +21,7 @@ enum-known-sps c = search needs
 sized-picture-requires : tie.Need-sized-picture-requires
 sized-picture-requires c κs =
     let s = c .before .before .before .before .before .before .before .before .before .before .before in
-    (s .pre, counted-fit (heldOf (s .args .h)) _ (c .before .before .before .before .before .before .counted .ensures) (c .before .before .before .before .sps .given .1))
+    (s .pre .0, (counted-fit (heldOf (s .args .h)) _ (c .before .before .before .before .before .before .counted .ensures) (c .before .before .before .before .sps .given .1), s .pre .1))
 
 returns : tie.Need-returns
 returns c =

@@ -1,7 +1,6 @@
 -- `reader::judge::read_unit` meets its contract: 11, 12, then what its header says. Assumes nothing.
 use mathlib.Core.Path.{refl}
 use native.Mathlib.Omega.{arith}
-use Rattle.nal_unit.specs.ScanCode.{unit-scanned}
 use Rattle.reader.specs.Read.{heldOf, rooms}
 use Rattle.reader.specs.ReadCode.{shown-as, shown-refused, shown-moved, unit-empty, unit-bad, unit-good}
 use borrow.Author.Needs.{needs}
@@ -18,7 +17,7 @@ returns : tie.Need-returns
 returns c =
     let s = c .before .before .before .before .before .before .before .before in
     let a = s .args in
-    let g = unit-scanned (a .s .now) (a .o) _ (c .before .before .before .unit-scan .ensures) in
+    let g = c .before .before .before .unit-scan .ensures in
     shown-moved (g .end) (shown-refused (a .y .now) (a .cb .now) (a .cr .now) (unit-empty (rooms (a .y .now) (a .cb .now) (a .cr .now)) (heldOf (a .h)) g (c .before .if1 .taken)) (c .refused .ensures))
 
 refused-requires-2 : tie.Need-refused-requires-2
@@ -28,15 +27,15 @@ returns-2 : tie.Need-returns-2
 returns-2 c =
     let s = c .before .before .before .before .before .before .before .before .before in
     let a = s .args in
-    let g = unit-scanned (a .s .now) (a .o) _ (c .before .before .before .before .unit-scan .ensures) in
+    let g = c .before .before .before .before .unit-scan .ensures in
     shown-moved (g .end) (shown-refused (a .y .now) (a .cb .now) (a .cr .now) (unit-bad (rooms (a .y .now) (a .cb .now) (a .cr .now)) (heldOf (a .h)) g (c .before .before .if1 .left) (s .pre .1) refl (c .before .if2 .taken)) (c .refused2 .ensures))
 
 read-payload-requires : tie.Need-read-payload-requires
 read-payload-requires c κs =
     let s = c .before .before .before .before .before .before .before .before .before .before .before in
     let a = s .args in
-    let g = unit-scanned (a .s .now) (a .o) _ (c .before .before .before .before .before .before .unit-scan .ensures) in
-    (s .pre .0, c .before .before .before .before .if1 .left, omega (arith, g .most, g .inside (s .pre .1)))
+    let g = c .before .before .before .before .before .before .unit-scan .ensures in
+    ((s .pre .0, c .before .before .before .before .if1 .left, omega (arith, g .most, g .inside (s .pre .1))), g .calm)
 
 same-length : tie.Need-same-length
 same-length c = search needs
@@ -51,7 +50,7 @@ returns-3 : tie.Need-returns-3
 returns-3 c =
     let s = c .before .before .before .before .before .before .before .before .before .before .before .before .before .before .before .before .before .before in
     let a = s .args in
-    let g = unit-scanned (a .s .now) (a .o) _ (c .before .before .before .before .before .before .before .before .before .before .before .before .before .unit-scan .ensures) in
+    let g = c .before .before .before .before .before .before .before .before .before .before .before .before .before .unit-scan .ensures in
     shown-moved (g .end) (shown-as (unit-good (rooms (a .y .now) (a .cb .now) (a .cr .now)) (heldOf (a .h)) g (c .before .before .before .before .before .before .before .before .before .before .before .if1 .left) (s .pre .1) refl (c .before .before .before .before .before .before .before .before .before .before .if2 .left)) (c .before .before .before .before .before .before .read-payload .ensures))
 
 pub read-unit-spec : {M : Type 1} → statement M

@@ -9,13 +9,13 @@ use borrow.Author.Needs.{needs}
 use Rattle.reader.proofs.judge.take_picture.Statement.{statement}
 use Rattle.reader.proofs.judge.take_picture.Tie as tie
 
-payload-len-requires : tie.Need-payload-len-requires
-payload-len-requires c κs = search needs
+payload-len-to-requires : tie.Need-payload-len-to-requires
+payload-len-to-requires c κs = search needs
 
-payload-len-requires-2 : tie.Need-payload-len-requires-2
-payload-len-requires-2 c κs =
+payload-len-requires : tie.Need-payload-len-requires
+payload-len-requires c κs =
     let s = c .before .before .before .before .before in
-    fine (s .args .q) (s .pre .1)
+    fine (s .args .q) (s .pre .1 .0)
 
 refused-requires : tie.Need-refused-requires
 refused-requires c κs = search needs
@@ -25,7 +25,7 @@ returns c =
     let s = c .before .before .before .before .before .before .before .before in
     let a = s .args in
     let X = payloadAt (a .s .now) (a .u .begin) (a .u .stop) in
-    let g : Measured (sequenceOf (a .q)) X _ _ = record { has = small-length (a .s .now) (a .u .begin) (a .u .stop) (c .before .before .before .payload-len .ensures); wants = c .before .before .payload-len2 .ensures } in
+    let g : Measured (sequenceOf (a .q)) X _ _ = record { has = small-length (a .s .now) (a .u .begin) (a .u .stop) (c .before .before .before .payload-len-to .ensures); wants = c .before .before .payload-len .ensures } in
     shown-refused (a .y .now) (a .cb .now) (a .cr .now) (picture-17 (rooms (a .y .now) (a .cb .now) (a .cr .now)) (heldOf (a .h)) (sequenceOf (a .q)) X g (c .before .if1 .taken)) (c .refused .ensures)
 
 formless-requires : tie.Need-formless-requires
@@ -33,8 +33,8 @@ formless-requires c κs =
     let s = c .before .before .before .before .before .before .before in
     let a = s .args in
     let X = payloadAt (a .s .now) (a .u .begin) (a .u .stop) in
-    let g : Measured (sequenceOf (a .q)) X _ _ = record { has = small-length (a .s .now) (a .u .begin) (a .u .stop) (c .before .before .payload-len .ensures); wants = c .before .payload-len2 .ensures } in
-    (s .pre .0, (s .pre .1, (g .has, g .wants, c .if1 .left)))
+    let g : Measured (sequenceOf (a .q)) X _ _ = record { has = small-length (a .s .now) (a .u .begin) (a .u .stop) (c .before .before .payload-len-to .ensures); wants = c .before .payload-len .ensures } in
+    (s .pre .0, (s .pre .1 .0, ((g .has, g .wants, c .if1 .left), s .pre .1 .1)))
 
 refused-requires-2 : tie.Need-refused-requires-2
 refused-requires-2 c κs = search needs
@@ -44,7 +44,7 @@ returns-2 c =
     let s = c .before .before .before .before .before .before .before .before .before .before in
     let a = s .args in
     let X = payloadAt (a .s .now) (a .u .begin) (a .u .stop) in
-    let g : Measured (sequenceOf (a .q)) X _ _ = record { has = small-length (a .s .now) (a .u .begin) (a .u .stop) (c .before .before .before .before .before .payload-len .ensures); wants = c .before .before .before .before .payload-len2 .ensures } in
+    let g : Measured (sequenceOf (a .q)) X _ _ = record { has = small-length (a .s .now) (a .u .begin) (a .u .stop) (c .before .before .before .before .before .payload-len-to .ensures); wants = c .before .before .before .before .payload-len .ensures } in
     shown-refused (a .y .now) (a .cb .now) (a .cr .now) (picture-18 (rooms (a .y .now) (a .cb .now) (a .cr .now)) (heldOf (a .h)) (sequenceOf (a .q)) X g (c .before .before .before .if1 .left) (c .before .before .formless .ensures) (c .before .if2 .taken)) (c .refused2 .ensures)
 
 short-requires : tie.Need-short-requires
@@ -64,7 +64,7 @@ returns-3 c =
     let s = c .before .before .before .before .before .before .before .before .before .before .before .before .before .before in
     let a = s .args in
     let X = payloadAt (a .s .now) (a .u .begin) (a .u .stop) in
-    let g : Measured (sequenceOf (a .q)) X _ _ = record { has = small-length (a .s .now) (a .u .begin) (a .u .stop) (c .before .before .before .before .before .before .before .before .before .payload-len .ensures); wants = c .before .before .before .before .before .before .before .before .payload-len2 .ensures } in
+    let g : Measured (sequenceOf (a .q)) X _ _ = record { has = small-length (a .s .now) (a .u .begin) (a .u .stop) (c .before .before .before .before .before .before .before .before .before .payload-len-to .ensures); wants = c .before .before .before .before .before .before .before .before .payload-len .ensures } in
     shown-19 (a .y .now) (a .cb .now) (a .cr .now) (picture-19 (rooms (a .y .now) (a .cb .now) (a .cr .now)) (heldOf (a .h)) (sequenceOf (a .q)) X g (c .before .before .before .before .before .before .before .if1 .left) (c .before .before .before .before .before .before .formless .ensures) (c .before .before .before .before .before .if2 .left) (c .before .short .ensures) (c .if3 .taken)) record { answer = refl; place = refl; held = refl }
 
 samples-requires : tie.Need-samples-requires
@@ -72,8 +72,8 @@ samples-requires c κs =
     let s = c .before .before .before .before .before .before .before .before .before .before .before .before .before .before .before .before .before in
     let a = s .args in
     let X = payloadAt (a .s .now) (a .u .begin) (a .u .stop) in
-    let g : Measured (sequenceOf (a .q)) X _ _ = record { has = small-length (a .s .now) (a .u .begin) (a .u .stop) (c .before .before .before .before .before .before .before .before .before .before .before .before .payload-len .ensures); wants = c .before .before .before .before .before .before .before .before .before .before .before .payload-len2 .ensures } in
-    (s .pre .0, ((fine (a .q) (s .pre .1), picture-exact (rooms (a .y .now) (a .cb .now) (a .cr .now)) (heldOf (a .h)) (sequenceOf (a .q)) X g (c .before .before .before .before .before .before .before .before .before .before .if1 .left) (c .before .before .before .before .before .before .before .before .before .formless .ensures) (c .before .before .before .before .before .before .before .before .if2 .left)), rooms-enough (sequenceOf (a .q)) (a .y .now) (a .cb .now) (a .cr .now) (c .before .before .before .before .short .ensures) (c .before .before .before .if3 .left)))
+    let g : Measured (sequenceOf (a .q)) X _ _ = record { has = small-length (a .s .now) (a .u .begin) (a .u .stop) (c .before .before .before .before .before .before .before .before .before .before .before .before .payload-len-to .ensures); wants = c .before .before .before .before .before .before .before .before .before .before .before .payload-len .ensures } in
+    (s .pre .0, ((fine (a .q) (s .pre .1 .0), picture-exact (rooms (a .y .now) (a .cb .now) (a .cr .now)) (heldOf (a .h)) (sequenceOf (a .q)) X g (c .before .before .before .before .before .before .before .before .before .before .if1 .left) (c .before .before .before .before .before .before .before .before .before .formless .ensures) (c .before .before .before .before .before .before .before .before .if2 .left)), rooms-enough (sequenceOf (a .q)) (a .y .now) (a .cb .now) (a .cr .now) (c .before .before .before .before .short .ensures) (c .before .before .before .if3 .left)))
 
 same-length-4 : tie.Need-same-length-4
 same-length-4 c = search needs
@@ -89,15 +89,15 @@ returns-4 c =
     let s = c .before .before .before .before .before .before .before .before .before .before .before .before .before .before .before .before .before .before .before .before .before .before .before .before in
     let a = s .args in
     let X = payloadAt (a .s .now) (a .u .begin) (a .u .stop) in
-    let g : Measured (sequenceOf (a .q)) X _ _ = record { has = small-length (a .s .now) (a .u .begin) (a .u .stop) (c .before .before .before .before .before .before .before .before .before .before .before .before .before .before .before .before .before .before .before .payload-len .ensures); wants = c .before .before .before .before .before .before .before .before .before .before .before .before .before .before .before .before .before .before .payload-len2 .ensures } in
+    let g : Measured (sequenceOf (a .q)) X _ _ = record { has = small-length (a .s .now) (a .u .begin) (a .u .stop) (c .before .before .before .before .before .before .before .before .before .before .before .before .before .before .before .before .before .before .before .payload-len-to .ensures); wants = c .before .before .before .before .before .before .before .before .before .before .before .before .before .before .before .before .before .before .payload-len .ensures } in
     shown-picture (sequenceOf (a .q)) X (picture-shown (rooms (a .y .now) (a .cb .now) (a .cr .now)) (heldOf (a .h)) (sequenceOf (a .q)) X g (c .before .before .before .before .before .before .before .before .before .before .before .before .before .before .before .before .before .if1 .left) (c .before .before .before .before .before .before .before .before .before .before .before .before .before .before .before .before .formless .ensures) (c .before .before .before .before .before .before .before .before .before .before .before .before .before .before .before .if2 .left) (c .before .before .before .before .before .before .before .before .before .before .before .short .ensures) (c .before .before .before .before .before .before .before .before .before .before .if3 .left)) record { answer = refl; place = refl; held = refl } (c .before .before .before .before .before .before .samples .ensures)
 
 pub take-picture-spec : {M : Type 1} → statement M
 take-picture-spec =
     tie.close
     (tie.spec
+    payload-len-to-requires
     payload-len-requires
-    payload-len-requires-2
     refused-requires
     returns
     formless-requires

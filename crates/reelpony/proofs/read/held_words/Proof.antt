@@ -3,10 +3,6 @@ use Rattle.reelpony.specs.ReadingCode.{held-missing, held-sized}
 use borrow.Author.Needs.{needs}
 use Rattle.reelpony.proofs.read.held_words.Statement.{statement}
 use Rattle.reelpony.proofs.read.held_words.Tie as tie
-use Rattle.reelpony.proofs.read.held_words.Reads as reads
-use Rattle.reelpony.proofs.read.held_words.Lts as lts
-use Rattle.reelpony.proofs.read.flag.Reads as flag-reads
-use Rattle.reelpony.proofs.read.sized_words.Reads as sized-words-reads
 
 flag-requires : tie.Need-flag-requires
 flag-requires c κs = search needs

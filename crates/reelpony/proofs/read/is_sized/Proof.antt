@@ -3,8 +3,6 @@ use Rattle.reelpony.specs.ReadingCode.{sized-as}
 use borrow.Author.Needs.{needs}
 use Rattle.reelpony.proofs.read.is_sized.Statement.{statement}
 use Rattle.reelpony.proofs.read.is_sized.Tie as tie
-use Rattle.reelpony.proofs.read.is_sized.Reads as reads
-use Rattle.reelpony.proofs.read.is_sized.Lts as lts
 
 element-copy-out-result : tie.Need-element-copy-out-result
 element-copy-out-result c = search needs

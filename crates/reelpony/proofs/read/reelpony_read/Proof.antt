@@ -3,13 +3,6 @@ use Rattle.reelpony.specs.ReadingCode.{reads-in}
 use borrow.Author.Needs.{needs}
 use Rattle.reelpony.proofs.read.reelpony_read.Statement.{statement}
 use Rattle.reelpony.proofs.read.reelpony_read.Tie as tie
-use Rattle.reelpony.proofs.read.reelpony_read.Reads as reads
-use Rattle.reelpony.proofs.read.reelpony_read.Lts as lts
-use Rattle.reader.proofs.read.Reads as read-reads
-use Rattle.reelpony.proofs.read.number_of.Reads as number-of-reads
-use Rattle.reelpony.proofs.read.sets_in.Reads as sets-in-reads
-use Rattle.reelpony.proofs.read.told_words.Reads as told-words-reads
-use Rattle.reelpony.proofs.read.words_after.Reads as words-after-reads
 
 element-copy-out-t12 : tie.Need-element-copy-out-t12
 element-copy-out-t12 c = search needs

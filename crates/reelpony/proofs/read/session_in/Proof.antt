@@ -4,10 +4,6 @@ use Rattle.reelpony.specs.ReadingCode.{sized-has, session-as}
 use borrow.Author.Needs.{needs}
 use Rattle.reelpony.proofs.read.session_in.Statement.{statement}
 use Rattle.reelpony.proofs.read.session_in.Tie as tie
-use Rattle.reelpony.proofs.read.session_in.Reads as reads
-use Rattle.reelpony.proofs.read.session_in.Lts as lts
-use Rattle.reelpony.proofs.depth_of.Reads as depth-of-reads
-use Rattle.reelpony.proofs.kind_of.Reads as kind-of-reads
 
 element-copy-out-t4 : tie.Need-element-copy-out-t4
 element-copy-out-t4 c = search needs

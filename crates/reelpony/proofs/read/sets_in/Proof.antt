@@ -5,11 +5,6 @@ use Rattle.reelpony.specs.ReadingCode.{sets-flags, sets-missing, sets-un
 use borrow.Author.Needs.{needs}
 use Rattle.reelpony.proofs.read.sets_in.Statement.{statement}
 use Rattle.reelpony.proofs.read.sets_in.Tie as tie
-use Rattle.reelpony.proofs.read.sets_in.Reads as reads
-use Rattle.reelpony.proofs.read.sets_in.Lts as lts
-use Rattle.reelpony.proofs.read.is_sized.Reads as is-sized-reads
-use Rattle.reelpony.proofs.read.none_held.Reads as none-held-reads
-use Rattle.reelpony.proofs.read.session_in.Reads as session-in-reads
 
 element-copy-out-sps : tie.Need-element-copy-out-sps
 element-copy-out-sps c = search needs

@@ -3,10 +3,6 @@ use mathlib.Core.Path.{refl}
 use borrow.Author.Needs.{needs}
 use Rattle.reelpony.proofs.read.sized_words.Statement.{statement}
 use Rattle.reelpony.proofs.read.sized_words.Tie as tie
-use Rattle.reelpony.proofs.read.sized_words.Reads as reads
-use Rattle.reelpony.proofs.read.sized_words.Lts as lts
-use Rattle.ycbcr_image.proofs.chroma_format_idc.Reads as chroma-format-idc-reads
-use Rattle.ycbcr_image.proofs.num_bits.Reads as num-bits-reads
 
 chroma-format-idc-requires : tie.Need-chroma-format-idc-requires
 chroma-format-idc-requires c κs = search needs

@@ -3,9 +3,6 @@ use mathlib.Core.Path.{refl}
 use borrow.Author.Needs.{needs}
 use Rattle.reelpony.proofs.read.told_words.Statement.{statement}
 use Rattle.reelpony.proofs.read.told_words.Tie as tie
-use Rattle.reelpony.proofs.read.told_words.Reads as reads
-use Rattle.reelpony.proofs.read.told_words.Lts as lts
-use Rattle.reelpony.proofs.read.sps_words.Reads as sps-words-reads
 
 enum-told : tie.Need-enum-told
 enum-told c = search needs

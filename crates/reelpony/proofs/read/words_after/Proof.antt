@@ -2,10 +2,6 @@
 use borrow.Author.Needs.{needs}
 use Rattle.reelpony.proofs.read.words_after.Statement.{statement}
 use Rattle.reelpony.proofs.read.words_after.Tie as tie
-use Rattle.reelpony.proofs.read.words_after.Reads as reads
-use Rattle.reelpony.proofs.read.words_after.Lts as lts
-use Rattle.reelpony.proofs.read.held_words.Reads as held-words-reads
-use Rattle.reelpony.proofs.read.moved_words.Reads as moved-words-reads
 
 enum-told : tie.Need-enum-told
 enum-told c = search needs
