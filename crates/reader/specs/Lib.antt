@@ -1,3 +1,4 @@
 pub mod Judge
 pub mod Heads
+pub mod Bands
 pub mod Samples
