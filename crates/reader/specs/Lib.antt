@@ -1,5 +1,6 @@
 pub mod Judge
 pub mod Heads
+pub mod Bands
 pub mod Samples
 pub mod Read
 pub mod ReadCode

@@ -3,31 +3,36 @@
 --     shown-high, shown-row     what is visible of a plane reaches into each of its blocks
 --     BlockBy, BlockTook        a block by the numbers that the code has; what is visible of it was taken
 --     Steps, MbsTook            what is visible of some macroblocks was taken into a plane, into the three
+--     RowStands, band-steps     a row of macroblocks without inserted bytes, and what is visible of a plane in it
 --     MbsTaking                 macroblocks that are being taken
 --     PlanesTook                the planes begin with the visible samples, stored tight, and are what they were behind them
 -- Assumes nothing.
 use mathlib.Core.Path.{_≡_, refl, sym, ap, _∙_}
 use mathlib.Core.List.{List, _++_}
-use Prim.Native.Nat.{ℕ, zero, suc, _+_, _-_, _*_, _/_, _≤_, _<_, min}
+use Prim.Native.Nat.{ℕ, zero, suc, _+_, _-_, _*_, _/_, _%_, _≤_, _<_, min}
 use lib.Arith.{digits-lt}
 use mathlib.Core.Bool.{true, false}
-use native.Mathlib.Nat.{zero-mul, add-mul, mul-le-mul, mul-le-mul-left, mul-le-mul-right}
+use native.Mathlib.Nat.{zero-mul, add-mul, mul-le-mul, mul-le-mul-left, mul-le-mul-right, div-add-mod'}
 use native.Mathlib.Omega.{arith}
 use mathlib.Core.Logic.{inl, inr}
-use lib.ListN.{length, drop}
+use lib.Dec.{eqb}
+use lib.ListN.{length, drop, getD}
 use Rattle.lists.specs.Fill.{splice}
-use Rattle.lists.specs.Part.{part}
+use Rattle.lists.specs.Part.{part, part-at}
 use Rattle.lists.specs.Test.{either}
-use Rattle.nal_unit.specs.Kept.{kept}
-use Rattle.nal_unit.specs.Taking.{Passed, Took, Stands, stands-pass, stands-room, stands-took}
+use Rattle.nal_unit.specs.Kept.{kept, insCount, kept-room}
+use Rattle.nal_unit.specs.Taking.{Passed, Took, Stands, stands-pass, stands-room, stands-took, stands-calm}
 use Rattle.slice.specs.Filling.{Filled, fill-skip, Fills, fills-none, fills-more}
-use Rattle.slice.specs.Grid.{spot, posOf}
+use Rattle.slice.specs.Cat.{cat, cat-length}
+use Rattle.slice.specs.Laid.{Laid, laid-length}
+use Rattle.slice.specs.Grid.{spot, posOf, tightOf}
 use Rattle.slice.specs.Blocks.{Fit, fill-first, fill-block, fill-last}
 use Rattle.slice.specs.Picture.{mbsIn, pictureLength, gridIn, offIn, samplesIn}
 use Rattle.ycbcr_image.specs.Form.{Form, mono, inPlane, planes, planes-some, planes-colour, blockWidth, blockHeight, blockRowBytes, blockBytes, mbBytes, block-high-most, bytes-eight, bytes-twelve}
 use Rattle.ycbcr_image.specs.Sizes.{Sequence, next-high, picWidthInMbs, frameHeightInMbs, visibleWidth, visibleHeight, visibleRowBytes, paddedWidth, paddedHeight, tightLength}
 use Rattle.ycbcr_image.specs.Accepted.{Fine, payload-most, tight-most}
 use Rattle.reader.specs.Heads.{payloadAt}
+use Rattle.reader.specs.Bands.{Banded, Band, linesOf, lines-even, band-in, lines-are, band-filled}
 
 -- h rows of bw bytes of the payload from its byte n on were taken, the first w bytes of each, into a plane that held d and holds d′; r is the place behind them
 pub record RowsTook (s : List ℕ) (o e n : ℕ) (d : List ℕ) (a w bw step h : ℕ) (d′ : List ℕ) (r : ℕ) : Type 0 where
@@ -265,9 +270,9 @@ pub blocks-all : {q : Sequence} → Fine q → blockBytes (q .form) 0 + (blockBy
 blocks-all g = sym (g .known .mb-blocks)
 
 -- monochrome has no chroma: nothing of it is to be taken
-nothing-taken : {q : Sequence} {X : List ℕ} (p i : ℕ) (out : List ℕ) → mono (q .form) ≡ true → Steps q (suc p) X i (i + 1) out out
+nothing-taken : {q : Sequence} {X : List ℕ} (p i m : ℕ) (out : List ℕ) → mono (q .form) ≡ true → Steps q (suc p) X i (i + m) out out
 unfolding visibleHeight inPlane spot
-nothing-taken {q} p i out e =
+nothing-taken {q} p i m out e =
     record { long = refl; step = λ f. fill-skip (record { on = omega arith; none = λ j l a b. let z : j < 0 = rw (e, zero-mul (visibleRowBytes q (suc p))) at l in omega arith }) f }
 
 no-bytes : (f : Form) (p : ℕ) → mono f ≡ true → blockBytes f (suc p) ≡ 0
@@ -286,6 +291,12 @@ bytes-most {q} g p a b = rw (a, b) (mul-le-mul (block-high-most (q .form) p) (g 
 pub stands-as : {s : List ℕ} {e : ℕ} {X : List ℕ} {n m p : ℕ} → n ≡ m → Stands s e X n p → Stands s e X m p
 stands-as e g = rw e at g
 
+pub stands-at : {s : List ℕ} {e : ℕ} {X : List ℕ} {n p r : ℕ} → p ≡ r → Stands s e X n p → Stands s e X n r
+stands-at e g = rw e at g
+
+pub calm-as : (s : List ℕ) (p : ℕ) {m n : ℕ} → m ≡ n → eqb (insCount s p (p + m)) 0 ≡ true → eqb (insCount s p (p + n)) 0 ≡ true
+calm-as s p e t = rw e at t
+
 -- colour has three planes
 pub in-colour : (f : Form) (p : ℕ) → mono f ≡ false → p < 3 → p < planes f
 in-colour f p e l = rw (planes-colour f e) l
@@ -300,8 +311,8 @@ mono-took {n = n} {q = q} cb cr g m my mx h k e t =
     let z : n + 2 + blockBytes (q .form) 0 ≡ 2 + (i + 1) * (2 + mbBytes (q .form)) = omega (arith, e, blocks-all g, no-bytes (q .form) 0 m, no-bytes (q .form) 1 m) in
     record {
       in-y = block-steps g 0 my mx (omega arith) (planes-some (q .form)) h k (omega (arith, e)) t;
-      in-cb = nothing-taken 0 i cb m;
-      in-cr = nothing-taken 1 i cr m;
+      in-cb = nothing-taken 0 i 1 cb m;
+      in-cr = nothing-taken 1 i 1 cr m;
       at = rw z at (t .at);
     }
 
@@ -320,6 +331,78 @@ colour-took {n = n} {luma = luma} {chroma = chroma} {q = q} g m my mx h k e u v 
       in-cr = block-steps g 2 my mx (omega arith) (rw three (omega arith)) h k (omega (arith, e, u, v)) tr;
       at = rw z at (tr .at);
     }
+
+-- A row of macroblocks, the first of which is i, stands at the place p of s as it does in the payload X.
+pub record RowStands (s X : List ℕ) (q : Sequence) (i p : ℕ) : Type 0 where
+  pub same : (k : ℕ) → k < picWidthInMbs q * (2 + mbBytes (q .form)) → getD X (headPlace q i + k) 0 ≡ getD s (p + k) 0
+  pub inside : p + picWidthInMbs q * (2 + mbBytes (q .form)) ≤ length s
+
+-- it is there
+pub row-there : {q : Sequence} {s X : List ℕ} {e n p r : ℕ} → Fine q → length X ≡ pictureLength q → (my : ℕ) → my < frameHeightInMbs q
+    → n ≡ headPlace q (my * picWidthInMbs q) → r ≡ picWidthInMbs q * (2 + mbBytes (q .form)) → Stands s e X n p → p + r ≤ e
+unfolding headPlace pictureLength
+row-there {q} {s} {e = e} {p = p} {r = r} g l my h f w t =
+    let a : my * picWidthInMbs q + picWidthInMbs q ≤ mbsIn q = omega (arith, mul-le-mul-right (picWidthInMbs q) h) in
+    let b = mul-le-mul-right (2 + mbBytes (q .form)) a in
+    kept-room s p e r (t .high) (t .inside) (stands-room r t (omega (arith, l, f, w)))
+
+-- and no byte of it is an inserted one
+pub row-stands : {q : Sequence} {s X : List ℕ} {e n p r : ℕ} (i : ℕ) → Stands s e X n p → n ≡ headPlace q i → r ≡ picWidthInMbs q * (2 + mbBytes (q .form)) → p + r ≤ e
+    → eqb (insCount s p (p + r)) 0 ≡ true → RowStands s X q i p × Stands s e X (headPlace q (i + picWidthInMbs q)) (p + r)
+unfolding headPlace
+row-stands {q} {s} {X} {e} {n} {p} {r} i g f w l t =
+    let c = stands-calm r r g (omega arith) l t in
+    let z : n + r ≡ 2 + (i + picWidthInMbs q) * (2 + mbBytes (q .form)) = omega (arith, f, w) in (
+      record {
+        same = λ k h. ap (λ (m : ℕ). getD X (m + k) 0) (sym f) ∙ sym (part-at X n r k (omega (arith, w))) ∙ (ap (λ (v : List ℕ). getD v k 0) (c .0) ∙ part-at s p r k (omega (arith, w)));
+        inside = omega (arith, g .inside, w);
+      },
+      rw z at (c .1),
+    )
+
+-- a plane's band in it; the numbers are those that the code has
+pub band-by : {q : Sequence} {s X : List ℕ} {k my bw bh vb vh h p : ℕ} → Fine q → k < planes (q .form) → BlockBy q k my 0 bw bh vb vh → RowStands s X q (my * picWidthInMbs q) p
+    → h ≡ min bh (vh - my * bh) → Band (gridIn q k) s X (visibleRowBytes q k) (visibleHeight q k) my p (headPlace q (my * picWidthInMbs q)) h
+unfolding headPlace spot
+band-by {q} {k = k} {my = my} g l b r e =
+    record {
+      same = r .same;
+      inside = r .inside;
+      begins = omega arith;
+      down = rw (b .rows, b .high) at (b .down);
+      shown = rw (b .rows, b .high) at e;
+      some = omega (arith, g .present k l .block-row);
+    }
+
+pub band-room : {q : Sequence} {s X : List ℕ} {k my bw bh vb vh h p size off : ℕ} → Fine q → k < 3 → k < planes (q .form) → BlockBy q k my 0 bw bh vb vh
+    → RowStands s X q (my * picWidthInMbs q) p → h ≡ min bh (vh - my * bh) → size ≡ mbBytes (q .form) → off ≡ offIn (q .form) k
+    → Banded (length s) (2 + size) (p + 2 + off) bw (vb / bw) (vb % bw) h
+band-room {q} {k = k} g m l b r e u v =
+    rw (u, v, b .row, b .wide) (band-in (fits g k m) (band-by g l b r e) (omega (arith, g .known .mb-most)))
+
+pub band-fits : {q : Sequence} {k my bw bh vb vh h len : ℕ} → BlockBy q k my 0 bw bh vb vh → h ≡ min bh (vh - my * bh) → 0 < bw → tightLength q k ≤ len
+    → my * bh * vb + h * (vb / bw * bw + vb % bw) ≤ len
+band-fits {my = my} {bw = bw} {bh = bh} {vb = vb} {vh = vh} {h = h} b e z l =
+    let a : my * bh + h ≤ vh = omega (arith, b .down) in
+    rw (div-add-mod' vb bw) (omega (arith, b .tight, mul-le-mul-right vb a))
+
+pub band-steps : {q : Sequence} {s X d d′ : List ℕ} {k my bw bh vb vh h p size off r : ℕ} → Fine q → k < 3 → k < planes (q .form) → BlockBy q k my 0 bw bh vb vh
+    → RowStands s X q (my * picWidthInMbs q) p → h ≡ min bh (vh - my * bh) → size ≡ mbBytes (q .form) → off ≡ offIn (q .form) k → tightLength q k ≤ length d
+    → Laid d (my * bh * vb) (cat (linesOf s (2 + size) (p + 2 + off) bw (vb / bw) (vb % bw)) 0 h) d′ r
+    → Steps q k X (my * picWidthInMbs q) (my * picWidthInMbs q + picWidthInMbs q) d d′
+band-steps {q} {s} {X} {d} {d′} {k} {my} {bw} {bh} {vb} {vh} {h} {p} {size} {off} g m l b r e u v w t =
+    let f = band-by g l b r e in
+    let o = cat-length (lines-even s (2 + size) (p + 2 + off) bw (vb / bw) (vb % bw) h (band-room g m l b r e u v)) in
+    let a : my * bh * vb ≡ my * blockHeight (q .form) k * visibleRowBytes q k = rw (b .rows, b .wide) refl in
+    let c : cat (linesOf s (2 + size) (p + 2 + off) bw (vb / bw) (vb % bw)) 0 h ≡ part (tightOf (gridIn q k) X (visibleRowBytes q k) (visibleHeight q k)) (my * blockHeight (q .form) k * visibleRowBytes q k) (h * visibleRowBytes q k) =
+    rw (u, v, b .row, b .wide) (lines-are (fits g k m) f (omega (arith, g .known .mb-most))) in
+    let z : d′ ≡ splice d (my * blockHeight (q .form) k * visibleRowBytes q k) (part (tightOf (gridIn q k) X (visibleRowBytes q k) (visibleHeight q k)) (my * blockHeight (q .form) k * visibleRowBytes q k) (h * visibleRowBytes q k)) = rw (a, c) at (t .bytes) in
+    record { long = laid-length t (omega (arith, o, band-fits b e (omega (arith, b .row, g .present k l .block-row)) w)); step = λ i. rw z (band-filled (fits g k m) f i) }
+
+-- the row was taken: in monochrome the band of one plane, in colour those of three
+pub mono-row : {s : List ℕ} {o e : ℕ} {q : Sequence} {y y′ : List ℕ} {r : ℕ} (i : ℕ) (cb cr : List ℕ) → mono (q .form) ≡ true → Steps q 0 (payloadAt s o e) i (i + picWidthInMbs q) y y′
+    → Stands s e (payloadAt s o e) (headPlace q (i + picWidthInMbs q)) r → MbsTook s o e q i (i + picWidthInMbs q) y y′ cb cb cr cr r
+mono-row {q = q} i cb cr m t a = record { in-y = t; in-cb = nothing-taken 0 i (picWidthInMbs q) cb m; in-cr = nothing-taken 1 i (picWidthInMbs q) cr m; at = a }
 
 -- the planes keep their room
 pub rooms-kept : {s : List ℕ} {o e : ℕ} {q : Sequence} {i j : ℕ} {y y′ cb cb′ cr cr′ : List ℕ} {r : ℕ} → Rooms q y cb cr → MbsTook s o e q i j y y′ cb cb′ cr cr′ r → Rooms q y′ cb′ cr′

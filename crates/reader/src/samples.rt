@@ -1,17 +1,27 @@
 // A picture's visible samples, taken from its unit into lent planes with tight rows (paper 01, "Reading a take"). The unit begins with its header byte at
-// the place o and ends at e.
+// the place o and ends at e, and no inserted byte stands in it from the place c on. A row of macroblocks without inserted bytes is taken line by line of
+// each plane, so that a plane is written from its first byte to its last; another macroblock by macroblock.
+use nal_unit::rows;
 use nal_unit::taking;
 use ycbcr_image::Session;
 ghost use mathlib.Core.Path.{_≡_};
+ghost use mathlib.Core.Bool.{true};
 ghost use Prim.Native.Nat.{_+_, _*_, _≤_, _<_, min};
+ghost use lib.Dec.{eqb};
 ghost use lib.ListN.{length};
+ghost use Rattle.lists.specs.Fill.{splice};
+ghost use Rattle.lists.specs.Part.{part};
+ghost use Rattle.nal_unit.specs.Kept.{insCount};
 ghost use Rattle.nal_unit.specs.Taking.{Stands};
-ghost use Rattle.ycbcr_image.specs.Form.{planes, blockBytes};
+ghost use Rattle.ycbcr_image.specs.Form.{planes, blockBytes, mbBytes};
 ghost use Rattle.ycbcr_image.specs.Sizes.{sequenceOf, picWidthInMbs, frameHeightInMbs, tightLength};
 ghost use Rattle.ycbcr_image.specs.Accepted.{Fine};
-ghost use Rattle.slice.specs.Picture.{pictureLength};
+ghost use Rattle.slice.specs.Cat.{cat, rowsOf};
+ghost use Rattle.slice.specs.Laid.{Laid};
+ghost use Rattle.slice.specs.Picture.{pictureLength, offIn};
 ghost use Rattle.reader.specs.Heads.{UnitAt, payloadAt};
-ghost use Rattle.reader.specs.Samples.{RowsTook, BlockTook, headPlace, Rooms, MbsTook, PlanesTook};
+ghost use Rattle.reader.specs.Bands.{pieces, linesOf, Pieced, Banded};
+ghost use Rattle.reader.specs.Samples.{RowsTook, BlockTook, headPlace, Rooms, MbsTook, Steps, RowStands, PlanesTook};
 
 // Takes h rows of bw bytes, which stand in the payload from its byte n on, at the place p of the unit: of each the first w bytes, into the output from the
 // place `at` on, `step` bytes from row to row. Answers the place behind them.
@@ -149,11 +159,251 @@ fn take_mbs(
     a
 }
 
+// Copies a row of a block. Its width is one of four, for each of which there is a copy of its own, since only a copy of a fixed width is fast.
+fn copy_row(s: &[u8], p: usize, w: usize, out: &mut [u8], at: usize)
+    requires { ⌜ (p + w ≤ length (now s)) × (at + w ≤ length (now out)) ⌝ }
+    ensures { λ _. ⌜ now (out .exit) ≡ splice (now (out .entry)) at (part (now (s .entry)) p w) ⌝ }
+{
+    if w == 16 {
+        rows::copy16(s, p, out, at);
+        return;
+    }
+    if w == 8 {
+        rows::copy8(s, p, out, at);
+        return;
+    }
+    if w == 24 {
+        rows::copy24(s, p, out, at);
+        return;
+    }
+    if w == 12 {
+        rows::copy12(s, p, out, at);
+        return;
+    }
+    rows::copy(s, p, w, out, at);
+}
+
+// Lays h rows of w bytes side by side, the first from the place p of s and each `stride` behind the last, and answers the place behind them.
+fn copy_rows(
+    s: &[u8],
+    p: usize,
+    stride: usize,
+    w: usize,
+    h: usize,
+    out: &mut [u8],
+    at: usize,
+) -> usize
+    requires { ⌜ (p + h * stride + w ≤ length (now s) + stride) × (h * stride ≤ length (now s)) ⌝ }
+    requires { ⌜ at + h * w ≤ length (now out) ⌝ }
+    ensures { λ r. ⌜ Laid (now (out .entry)) at (cat (rowsOf (now (s .entry)) stride p w) 0 h) (now (out .exit)) r ⌝ }
+{
+    let mut q = p;
+    let mut a = at;
+    let mut k = 0;
+    while k < h {
+        copy_row(s, q, w, out, a);
+        q += stride;
+        a += w;
+        k += 1;
+    }
+    a
+}
+
+// The same for the widths that there are, each by itself: a loop over rows of a fixed width is fast.
+fn lay_rows(
+    s: &[u8],
+    p: usize,
+    stride: usize,
+    w: usize,
+    h: usize,
+    out: &mut [u8],
+    at: usize,
+) -> usize
+    requires { ⌜ (p + h * stride + w ≤ length (now s) + stride) × (h * stride ≤ length (now s)) ⌝ }
+    requires { ⌜ at + h * w ≤ length (now out) ⌝ }
+    ensures { λ r. ⌜ Laid (now (out .entry)) at (cat (rowsOf (now (s .entry)) stride p w) 0 h) (now (out .exit)) r ⌝ }
+{
+    if w == 16 {
+        return copy_rows(s, p, stride, 16, h, out, at);
+    }
+    if w == 8 {
+        return copy_rows(s, p, stride, 8, h, out, at);
+    }
+    if w == 24 {
+        return copy_rows(s, p, stride, 24, h, out, at);
+    }
+    if w == 12 {
+        return copy_rows(s, p, stride, 12, h, out, at);
+    }
+    copy_rows(s, p, stride, w, h, out, at)
+}
+
+// Lays a line of a plane: `full` pieces of bw bytes, the first from the place p of s and each `unit` behind the last, and the first `rest` bytes of one more.
+fn line(
+    s: &[u8],
+    p: usize,
+    unit: usize,
+    bw: usize,
+    full: usize,
+    rest: usize,
+    out: &mut [u8],
+    at: usize,
+) -> usize
+    requires { ⌜ Pieced (length (now s)) unit p bw full rest ⌝ }
+    requires { ⌜ at + (full * bw + rest) ≤ length (now out) ⌝ }
+    ensures { λ r. ⌜ Laid (now (out .entry)) at (pieces (now (s .entry)) unit p bw full rest) (now (out .exit)) r ⌝ }
+{
+    let a = lay_rows(s, p, unit, bw, full, out, at);
+    if rest == 0 {
+        return a;
+    }
+    rows::copy(s, p + full * unit, rest, out, a);
+    a + rest
+}
+
+// Lays h lines, each bw bytes behind the one before it.
+fn band(
+    s: &[u8],
+    p: usize,
+    unit: usize,
+    bw: usize,
+    full: usize,
+    rest: usize,
+    h: usize,
+    out: &mut [u8],
+    at: usize,
+) -> usize
+    requires { ⌜ Banded (length (now s)) unit p bw full rest h ⌝ }
+    requires { ⌜ at + h * (full * bw + rest) ≤ length (now out) ⌝ }
+    ensures { λ r. ⌜ Laid (now (out .entry)) at (cat (linesOf (now (s .entry)) unit p bw full rest) 0 h) (now (out .exit)) r ⌝ }
+{
+    let mut q = p;
+    let mut a = at;
+    let mut y = 0;
+    while y < h {
+        a = line(s, q, unit, bw, full, rest, out, a);
+        q += bw;
+        y += 1;
+    }
+    a
+}
+
+// Takes what is visible of plane k in row my of macroblocks, which stands at the place p as it does in the payload; `off` bytes of a macroblock stand before
+// the plane's block.
+fn take_band(
+    s: &[u8],
+    o: usize,
+    e: usize,
+    p: usize,
+    q: Session,
+    k: u32,
+    off: usize,
+    my: usize,
+    out: &mut [u8],
+)
+    requires { ⌜ RowStands (now s) (payloadAt (now s) o e) (sequenceOf q) (my * picWidthInMbs (sequenceOf q)) p ⌝ }
+    requires { ⌜ (Fine (sequenceOf q)) × (k < planes (sequenceOf q .form)) ⌝ }
+    requires { ⌜ (my < frameHeightInMbs (sequenceOf q)) × (off ≡ offIn (sequenceOf q .form) k) ⌝ }
+    requires { ⌜ (k < 3) × (tightLength (sequenceOf q) k ≤ length (now out)) ⌝ }
+    ensures { λ _. ⌜ Steps (sequenceOf q) k (payloadAt (now (s .entry)) o e) (my * picWidthInMbs (sequenceOf q)) (my * picWidthInMbs (sequenceOf q) + picWidthInMbs (sequenceOf q)) (now (out .entry)) (now (out .exit)) ⌝ }
+{
+    let size = ycbcr_image::mb_bytes(q);
+    let bw = ycbcr_image::block_row_bytes(q, k);
+    let bh = ycbcr_image::mb_height(q, k);
+    let vb = ycbcr_image::visible_row_bytes(q, k);
+    let vh = ycbcr_image::visible_rows(q, k);
+    let h = least(bh, vh - my * bh);
+    band(
+        s,
+        p + 2 + off,
+        2 + size,
+        bw,
+        vb / bw,
+        vb % bw,
+        h,
+        out,
+        my * bh * vb,
+    );
+}
+
+// Takes the visible samples of row my of macroblocks, which begins at the place p, among the bytes of which none is an inserted one.
+fn take_calm(
+    s: &[u8],
+    o: usize,
+    e: usize,
+    p: usize,
+    n: usize,
+    q: Session,
+    my: usize,
+    y: &mut [u8],
+    cb: &mut [u8],
+    cr: &mut [u8],
+) -> usize
+    requires { ⌜ Stands (now s) e (payloadAt (now s) o e) n p ⌝ }
+    requires { ⌜ (Fine (sequenceOf q)) × (length (payloadAt (now s) o e) ≡ pictureLength (sequenceOf q)) ⌝ }
+    requires { ⌜ (my < frameHeightInMbs (sequenceOf q)) × (n ≡ headPlace (sequenceOf q) (my * picWidthInMbs (sequenceOf q))) ⌝ }
+    requires { ⌜ Rooms (sequenceOf q) (now y) (now cb) (now cr) ⌝ }
+    requires { ⌜ eqb (insCount (now s) p (p + picWidthInMbs (sequenceOf q) * (2 + mbBytes (sequenceOf q .form)))) 0 ≡ true ⌝ }
+    ensures { λ r. ⌜ MbsTook (now (s .entry)) o e (sequenceOf q) (my * picWidthInMbs (sequenceOf q)) (my * picWidthInMbs (sequenceOf q) + picWidthInMbs (sequenceOf q)) (now (y .entry)) (now (y .exit)) (now (cb .entry)) (now (cb .exit)) (now (cr .entry)) (now (cr .exit)) r ⌝ }
+{
+    let luma = ycbcr_image::mb_height(q, 0) * ycbcr_image::block_row_bytes(q, 0);
+    let chroma = ycbcr_image::mb_height(q, 1) * ycbcr_image::block_row_bytes(q, 1);
+    let row = ycbcr_image::mbs_width(q) * (2 + ycbcr_image::mb_bytes(q));
+    take_band(s, o, e, p, q, 0, 0, my, y);
+    if ycbcr_image::is_monochrome(q) {
+        return p + row;
+    }
+    take_band(s, o, e, p, q, 1, luma, my, cb);
+    take_band(s, o, e, p, q, 2, luma + chroma, my, cr);
+    p + row
+}
+
+// Takes the visible samples of row my of macroblocks; what stands before the first begins at the payload's byte n, at the place p.
+fn take_line(
+    s: &[u8],
+    o: usize,
+    e: usize,
+    c: usize,
+    p: usize,
+    n: usize,
+    q: Session,
+    my: usize,
+    y: &mut [u8],
+    cb: &mut [u8],
+    cr: &mut [u8],
+) -> usize
+    requires { ⌜ Stands (now s) e (payloadAt (now s) o e) n p ⌝ }
+    requires { ⌜ (Fine (sequenceOf q)) × (length (payloadAt (now s) o e) ≡ pictureLength (sequenceOf q)) ⌝ }
+    requires { ⌜ (my < frameHeightInMbs (sequenceOf q)) × (n ≡ headPlace (sequenceOf q) (my * picWidthInMbs (sequenceOf q))) ⌝ }
+    requires { ⌜ Rooms (sequenceOf q) (now y) (now cb) (now cr) ⌝ }
+    requires { ⌜ insCount (now s) c e ≡ 0 ⌝ }
+    ensures { λ r. ⌜ MbsTook (now (s .entry)) o e (sequenceOf q) (my * picWidthInMbs (sequenceOf q)) (my * picWidthInMbs (sequenceOf q) + picWidthInMbs (sequenceOf q)) (now (y .entry)) (now (y .exit)) (now (cb .entry)) (now (cb .exit)) (now (cr .entry)) (now (cr .exit)) r ⌝ }
+{
+    if c <= p {
+        return take_calm(s, o, e, p, n, q, my, y, cb, cr);
+    }
+    let row = ycbcr_image::mbs_width(q) * (2 + ycbcr_image::mb_bytes(q));
+    if taking::calm(s, p, row) {
+        return take_calm(s, o, e, p, n, q, my, y, cb, cr);
+    }
+    take_mbs(s, o, e, p, n, q, my, y, cb, cr)
+}
+
 // Takes all visible samples of a picture, whose payload has the exact length, into the planes of its kind, stored tight.
-pub fn samples(s: &[u8], o: usize, e: usize, q: Session, y: &mut [u8], cb: &mut [u8], cr: &mut [u8])
+pub fn samples(
+    s: &[u8],
+    o: usize,
+    e: usize,
+    c: usize,
+    q: Session,
+    y: &mut [u8],
+    cb: &mut [u8],
+    cr: &mut [u8],
+)
     requires { ⌜ UnitAt (now s) o e ⌝ }
     requires { ⌜ (Fine (sequenceOf q)) × (length (payloadAt (now s) o e) ≡ pictureLength (sequenceOf q)) ⌝ }
     requires { ⌜ Rooms (sequenceOf q) (now y) (now cb) (now cr) ⌝ }
+    requires { ⌜ insCount (now s) c e ≡ 0 ⌝ }
     ensures { λ _. ⌜ PlanesTook (sequenceOf q) (payloadAt (now (s .entry)) o e) (now (y .entry)) (now (y .exit)) (now (cb .entry)) (now (cb .exit)) (now (cr .entry)) (now (cr .exit)) ⌝ }
 {
     let mh = ycbcr_image::mbs_height(q);
@@ -162,7 +412,7 @@ pub fn samples(s: &[u8], o: usize, e: usize, q: Session, y: &mut [u8], cb: &mut 
     let mut n = 2;
     let mut my = 0;
     while my < mh {
-        a = take_mbs(s, o, e, a, n, q, my, y, cb, cr);
+        a = take_line(s, o, e, c, a, n, q, my, y, cb, cr);
         n += row;
         my += 1;
     }

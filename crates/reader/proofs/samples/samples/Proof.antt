@@ -13,10 +13,10 @@ use Rattle.reader.proofs.samples.samples.Statement.{statement}
 use Rattle.reader.proofs.samples.samples.Tie as tie
 
 abbrev Inv-loop : tie.InvT-loop
-Inv-loop s o e q y₀ cb₀ cr₀ mh row a₀ n₀ my₀ y cb cr a n my = MbsTaking s o e (sequenceOf q) 0 (my * picWidthInMbs (sequenceOf q)) (mbsIn (sequenceOf q)) y₀ y cb₀ cb cr₀ cr a n
+Inv-loop s o e c q y₀ cb₀ cr₀ mh row a₀ n₀ my₀ y cb cr a n my = MbsTaking s o e (sequenceOf q) 0 (my * picWidthInMbs (sequenceOf q)) (mbsIn (sequenceOf q)) y₀ y cb₀ cb cr₀ cr a n
 
 abbrev μ-loop : tie.MeasureT-loop
-μ-loop s o e q y₀ cb₀ cr₀ mh row a₀ n₀ my₀ y cb cr a n my = mh - my
+μ-loop s o e c q y₀ cb₀ cr₀ mh row a₀ n₀ my₀ y cb cr a n my = mh - my
 
 mbs-height-requires : tie.Need-mbs-height-requires Inv-loop μ-loop
 mbs-height-requires c κs = search needs
@@ -46,13 +46,13 @@ loop-holds : tie.Need-loop-holds Inv-loop μ-loop
 loop-holds c =
     let s = c .before .before .before .before .before .before .before .before in
     let z : 0 + 2 ≡ 2 = omega arith in
-    mbs-as (sym (zero-mul (picWidthInMbs (sequenceOf (s .args .q))))) (mbs-start (sequenceOf (s .args .q)) 0 (mbsIn (sequenceOf (s .args .q))) (s .args .y .now) (s .args .cb .now) (s .args .cr .now) (omega arith) (stands-as z (stands-pass (unit-stands (s .pre .0)) (c .skip .ensures))) (first-head (sequenceOf (s .args .q))) (s .pre .1 .1))
+    mbs-as (sym (zero-mul (picWidthInMbs (sequenceOf (s .args .q))))) (mbs-start (sequenceOf (s .args .q)) 0 (mbsIn (sequenceOf (s .args .q))) (s .args .y .now) (s .args .cb .now) (s .args .cr .now) (omega arith) (stands-as z (stands-pass (unit-stands (s .pre .0)) (c .skip .ensures))) (first-head (sequenceOf (s .args .q))) (s .pre .1 .1 .0))
 
-take-mbs-requires : tie.Need-take-mbs-requires Inv-loop μ-loop
-take-mbs-requires c κs =
+take-line-requires : tie.Need-take-line-requires Inv-loop μ-loop
+take-line-requires c κs =
     let s = c .before .before .before .before .before .before .before .before .before .before .before .before .before in
     let g = c .before .before .before .before .loop .inv in
-    (stands-as (sym (g .count)) (g .took .at), (s .pre .1 .0, ((omega (arith, c .before .before .before .loop-test .taken, c .before .before .before .before .before .before .before .before .mbs-height .ensures), g .count), g .rooms)))
+    (stands-as (sym (g .count)) (g .took .at), (s .pre .1 .0, ((omega (arith, c .before .before .before .loop-test .taken, c .before .before .before .before .before .before .before .before .mbs-height .ensures), g .count), (g .rooms, s .pre .1 .1 .1))))
 
 add-n : tie.Need-add-n Inv-loop μ-loop
 add-n c =
@@ -73,7 +73,7 @@ loop-again c =
     let my = c .before .before .before .before .before .before .before .before .before .before .before .loop .my in
     let l : my < frameHeightInMbs (sequenceOf (s .args .q)) = omega (arith, c .before .before .before .before .before .before .before .before .before .before .loop-test .taken, c .before .before .before .before .before .before .before .before .before .before .before .before .before .before .before .mbs-height .ensures) in
     let e : my * picWidthInMbs (sequenceOf (s .args .q)) + picWidthInMbs (sequenceOf (s .args .q)) ≡ (my + 1) * picWidthInMbs (sequenceOf (s .args .q)) = omega arith in
-    mbs-as e (mbs-turn (picWidthInMbs (sequenceOf (s .args .q))) _ g (omega (arith, mul-le-mul-right (picWidthInMbs (sequenceOf (s .args .q))) l)) (row-as (sequenceOf (s .args .q)) (c .before .before .before .before .before .before .before .before .before .before .before .before .before .before .mbs-width .ensures) (c .before .before .before .before .before .before .before .before .before .before .before .before .before .mb-bytes .ensures)) (c .before .before .before .before .before .before .take-mbs .ensures))
+    mbs-as e (mbs-turn (picWidthInMbs (sequenceOf (s .args .q))) _ g (omega (arith, mul-le-mul-right (picWidthInMbs (sequenceOf (s .args .q))) l)) (row-as (sequenceOf (s .args .q)) (c .before .before .before .before .before .before .before .before .before .before .before .before .before .before .mbs-width .ensures) (c .before .before .before .before .before .before .before .before .before .before .before .before .before .mb-bytes .ensures)) (c .before .before .before .before .before .before .take-line .ensures))
 
 same-length : tie.Need-same-length Inv-loop μ-loop
 same-length c = c .before .loop .inv .took .in-y .long
@@ -89,7 +89,7 @@ returns c =
     let s = c .before .before .before .before .before .before .before .before .before .before in
     let g = c .before .loop .inv in
     let m = rows-all (s .pre .1 .0 .0) (c .before .loop .my) (g .within) (omega (arith, c .loop-test .left, c .before .before .before .before .before .mbs-height .ensures)) in
-    planes-took (s .pre .1 .0 .0) (s .pre .1 .1) (mbs-end g (ap (λ (k : ℕ). k * picWidthInMbs (sequenceOf (s .args .q))) m))
+    planes-took (s .pre .1 .0 .0) (s .pre .1 .1 .0) (mbs-end g (ap (λ (k : ℕ). k * picWidthInMbs (sequenceOf (s .args .q))) m))
 
 pub samples-spec : {M : Type 1} → statement M
 samples-spec =
@@ -105,7 +105,7 @@ samples-spec =
     add-skip
     skip-requires
     loop-holds
-    take-mbs-requires
+    take-line-requires
     add-n
     add-my
     loop-less
