@@ -208,7 +208,7 @@ fn take_picture(
             },
         };
     }
-    samples::samples(s, u.begin, u.stop, q, y, cb, cr);
+    samples::samples(s, u.begin, u.stop, u.calm, q, y, cb, cr);
     Step {
         answer: Answer::Picture(u.begin),
         reader: Reader {

@@ -316,8 +316,8 @@ mod tests {
     /// A function's name, its parameters and its result.
     type Function = (String, Vec<Parameter>, String);
 
-    /// The functions that a text declares, each up to its semicolon. Rust's have a comma behind the
-    /// last parameter where they take more than a line.
+    /// The functions that a text declares, each up to a semicolon that ends a line. Rust's have a
+    /// comma behind the last parameter where they take more than a line.
     fn functions(
         text: &str,
         parameter: fn(&str) -> Parameter,
@@ -330,7 +330,7 @@ mod tests {
             let parameters = parameters.trim().trim_end_matches(',').split(',');
             Some((name.into(), parameters.map(parameter).collect(), result(before, after)))
         };
-        text.split(';').filter_map(function).collect()
+        text.split(";\n").filter_map(function).collect()
     }
 
     /// `const uint8_t *y`, `uint32_t session[8]` and the like.
@@ -365,7 +365,7 @@ mod tests {
     #[test]
     fn declarations_are_the_headers() {
         let header = without_comments(include_str!("../../../include/reelpony.h"));
-        let source = include_str!("ffi.rs").split("\n}").next().unwrap();
+        let source = include_str!("ffi.rs").split_inclusive("\n}").next().unwrap();
         let mentions = [&header, source].map(|text| text.matches(" reelpony_").count());
 
         let c_result = |before: &str, _: &str| {

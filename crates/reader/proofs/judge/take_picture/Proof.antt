@@ -73,7 +73,7 @@ samples-requires c κs =
     let a = s .args in
     let X = payloadAt (a .s .now) (a .u .begin) (a .u .stop) in
     let g : Measured (sequenceOf (a .q)) X _ _ = record { has = small-length (a .s .now) (a .u .begin) (a .u .stop) (c .before .before .before .before .before .before .before .before .before .before .before .before .payload-len-to .ensures); wants = c .before .before .before .before .before .before .before .before .before .before .before .payload-len .ensures } in
-    (s .pre .0, ((fine (a .q) (s .pre .1 .0), picture-exact (rooms (a .y .now) (a .cb .now) (a .cr .now)) (heldOf (a .h)) (sequenceOf (a .q)) X g (c .before .before .before .before .before .before .before .before .before .before .if1 .left) (c .before .before .before .before .before .before .before .before .before .formless .ensures) (c .before .before .before .before .before .before .before .before .if2 .left)), rooms-enough (sequenceOf (a .q)) (a .y .now) (a .cb .now) (a .cr .now) (c .before .before .before .before .short .ensures) (c .before .before .before .if3 .left)))
+    (s .pre .0, ((fine (a .q) (s .pre .1 .0), picture-exact (rooms (a .y .now) (a .cb .now) (a .cr .now)) (heldOf (a .h)) (sequenceOf (a .q)) X g (c .before .before .before .before .before .before .before .before .before .before .if1 .left) (c .before .before .before .before .before .before .before .before .before .formless .ensures) (c .before .before .before .before .before .before .before .before .if2 .left)), (rooms-enough (sequenceOf (a .q)) (a .y .now) (a .cb .now) (a .cr .now) (c .before .before .before .before .short .ensures) (c .before .before .before .if3 .left), s .pre .1 .1)))
 
 same-length-4 : tie.Need-same-length-4
 same-length-4 c = search needs
