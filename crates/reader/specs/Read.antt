@@ -1,7 +1,7 @@
 -- The reader's call as the code has it (paper 01, "Reading a take"): the turn of the walk (crate nal_unit, Calls) with the reader's judge.
 --     Told, told, toldOf      an answer without its samples, which go to the planes: of the walk, and of the code
 --     heldOf                  the parameter sets that are held
---     rooms                   the lengths of the lent planes
+--     roomOf, rooms           the lengths of the lent planes
 --     planeLength             the length of a plane for a picture while h is held: its visible rows, stored tight
 --     handed, laid            the samples that an answer hands out; a plane that held d and now begins with x
 --     readOf                  the turn of a call
@@ -66,9 +66,12 @@ spsOf (Size s) = some (sequenceOf s)
 abbrev pub heldOf : HeldSets → Held
 heldOf h = record { sps = spsOf (h .sps); pps = h .pps }
 
--- the length of the plane k
-unfoldable pub rooms : List ℕ → List ℕ → List ℕ → ℕ → ℕ
-rooms y cb cr k = cond (eqb k 0) (length y) (cond (eqb k 1) (length cb) (length cr))
+-- the length of the plane k, of three
+unfoldable pub roomOf : ℕ → ℕ → ℕ → ℕ → ℕ
+roomOf a b c k = cond (eqb k 0) a (cond (eqb k 1) b c)
+
+abbrev pub rooms : List ℕ → List ℕ → List ℕ → ℕ → ℕ
+rooms y cb cr = roomOf (length y) (length cb) (length cr)
 
 unfoldable pub planeLength : Held → ℕ → ℕ
 planeLength h k = cond (ltb 2 k) 0 (elim (counted h .sps) [ none ↦ 0 | some q ↦ tightLength q k ])

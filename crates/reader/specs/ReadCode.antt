@@ -46,7 +46,7 @@ use Rattle.reader.specs.declared.Step.{Step}
 use Rattle.reader.specs.Judge.{Held, nothing, Samples, Word, sps, pps, picture, refused, possible, session-possible, counted, keep, spsVerdict, ppsVerdict, short, samplesOf, formless, pictureVerdict, heldVerdict, unitVerdict, judge}
 use Rattle.reader.specs.Heads.{payloadAt}
 use Rattle.reader.specs.Samples.{Rooms, PlanesTook}
-use Rattle.reader.specs.Read.{toldOf, wordAt, heldOf, rooms, planeLength, handedBy, laid, Reads}
+use Rattle.reader.specs.Read.{toldOf, wordAt, heldOf, roomOf, rooms, planeLength, handedBy, laid, Reads}
 
 pub record Judged (v : Verdict Held Word) (p o n : ℕ) (r : Step) : Type 0 where
   pub answer : toldOf (r .answer) ≡ wordAt o (v .word)
@@ -150,7 +150,7 @@ pps-form h c X e t = rw (sym e ∙ t) refl
 
 pub short-as : (q : Sequence) (y cb cr : List ℕ) {a b c : ℕ} → a ≡ tightLength q 0 → b ≡ tightLength q 1 → c ≡ tightLength q 2
     → ltb (length y) a || (ltb (length cb) b || ltb (length cr) c) ≡ short (rooms y cb cr) q
-unfolding short rooms
+unfolding short roomOf
 short-as q y cb cr e f g = rw (e, f, g) refl
 
 pub formless-long : (q : Sequence) (X : List ℕ) → pictureLength q < length X → true ≡ formless q X
@@ -190,7 +190,7 @@ module _ (room : ℕ → ℕ) (h : Held) (q : Sequence) (X : List ℕ) {n m : �
 
 -- planes that are not short have room
 pub rooms-enough : (q : Sequence) (y cb cr : List ℕ) {b : Bool} → b ≡ short (rooms y cb cr) q → b ≡ false → Rooms q y cb cr
-unfolding short rooms
+unfolding short roomOf
 rooms-enough q y cb cr e t =
     let a = or-right (ltb (length y) (tightLength q 0)) _ (sym e ∙ t) in
     record {

@@ -85,7 +85,10 @@ pub fn read(take: &[u8], reader: Reader, y: &mut [u8], cb: &mut [u8], cr: &mut [
     if take.len() <= code {
         return Step {
             answer: Answer::End,
-            reader: reader,
+            reader: Reader {
+                place: place,
+                sets: sets,
+            },
         };
     }
     judge::read_unit(take, place, code + 3, sets, y, cb, cr)

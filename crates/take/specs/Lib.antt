@@ -5,3 +5,5 @@ pub mod Reading
 pub mod Cut
 pub mod Broken
 pub mod Promises
+pub mod Host
+pub mod Written

@@ -1,0 +1,111 @@
+-- The promises for the code itself: what a host gets that calls the proved functions one behind the other. Their contracts are all that is used; what
+-- start and next wrote is a take (Written).
+--     Call, Runs        calls of `read` over one take: each goes on where the one before it left the reader; the planes may hold anything before
+--     Lends             the planes lent have the same lengths at every call
+--     Got, Gets         what the calls answered and left in the planes is what the walk says
+--     runs-get          so it is of any calls
+--     host-round-trip, host-cut, host-damage     the promises so
+-- Assumes nothing.
+use mathlib.Core.Path.{_≡_, refl}
+use mathlib.Core.List.{List, [], _∷_, _++_, map}
+use mathlib.Core.Bool.{true, false}
+use Prim.Native.Nat.{ℕ, _+_}
+use lib.ListN.{length, take, drop, replicate}
+use Rattle.nal_unit.specs.StartCode.{startCode, code}
+use Rattle.nal_unit.specs.Calls.{Say, ended, astray, said, at, turn, answers}
+use Rattle.nal_unit.specs.Cut.{kept}
+use Rattle.nal_unit.specs.Damage.{moved}
+use Rattle.nal_unit.specs.Frame.{joined}
+use Rattle.encoder.specs.Units.{spsUnit, ppsUnit}
+use Rattle.reader.specs.declared.HeldSps.the-variants.{Missing}
+use Rattle.reader.specs.declared.Reader.{Reader}
+use Rattle.reader.specs.declared.Step.{Step}
+use Rattle.reader.specs.Judge.{nothing, Word, judge}
+use Rattle.reader.specs.Read.{told, toldOf, heldOf, roomOf, handed, laid, Reads}
+use Rattle.take.specs.Judged.{having, Enough}
+use Rattle.take.specs.Take.{Take, sizeOf, bytesOf, unitsOf, wordsOf}
+use Rattle.take.specs.Reading.{listed}
+use Rattle.take.specs.Promises.{round-trip, cutSays, cut, damage}
+
+-- a call of `read`: the planes lent to it, what it answered with the next state, the planes then
+pub record Call : Type 0 where
+  pub y : List ℕ
+  pub cb : List ℕ
+  pub cr : List ℕ
+  pub step : Step
+  pub y′ : List ℕ
+  pub cb′ : List ℕ
+  pub cr′ : List ℕ
+
+abbrev pub Runs : List ℕ → Reader → List Call → Type 0
+Runs s b [] = Unit {0}
+Runs s b (c ∷ cs) = Reads s b (c .y) (c .cb) (c .cr) (c .step) (c .y′) (c .cb′) (c .cr′) × Runs s (c .step .reader) cs
+
+-- a reader that has not begun
+abbrev pub fresh : Reader
+fresh = record { place = 0; sets = record { sps = Missing; pps = false } }
+
+abbrev pub Lends : ℕ → ℕ → ℕ → List Call → Type 0
+Lends i j k [] = Unit {0}
+Lends i j k (c ∷ cs) = ((length (c .y) ≡ i) × ((length (c .cb) ≡ j) × (length (c .cr) ≡ k))) × Lends i j k cs
+
+-- an answer, and the planes: the samples that it hands out, then what stood behind them
+pub record Got (c : Call) (a : Say Word) : Type 0 where
+  pub answer : toldOf (c .step .answer) ≡ told a
+  pub in-y : c .y′ ≡ laid (handed a .y) (c .y)
+  pub in-cb : c .cb′ ≡ laid (handed a .cb) (c .cb)
+  pub in-cr : c .cr′ ≡ laid (handed a .cr) (c .cr)
+
+abbrev pub Gets : List Call → List (Say Word) → Type 0
+Gets [] [] = Unit {0}
+Gets [] (a ∷ us) = ⊥
+Gets (c ∷ cs) [] = ⊥
+Gets (c ∷ cs) (a ∷ us) = Got c a × Gets cs us
+
+-- the samples of an answer do not depend on where it is counted from
+handed-at : (p : ℕ) (a : Say Word) → handed (at p a) ≡ handed a
+unfolding at
+handed-at p ended = refl
+handed-at p (astray o n) = refl
+handed-at p (said o w) = refl
+
+pub runs-get : (i j k : ℕ) (s : List ℕ) (b : Reader) (cs : List Call) → Lends i j k cs → Runs s b cs → Gets cs (answers (judge (roomOf i j k)) s (length cs) (heldOf (b .sets)) (b .place))
+unfolding answers
+runs-get i j k s b [] l g = tt
+runs-get i j k s b (c ∷ cs) l g =
+    let e : roomOf (length (c .y)) (length (c .cb)) (length (c .cr)) ≡ roomOf i j k = rw (l .0 .0, l .0 .1 .0, l .0 .1 .1) refl in
+    let f = g .0 in
+    let x = turn (judge (roomOf i j k)) (heldOf (b .sets)) (drop (b .place) s) in
+    let got : Got c (at (b .place) (x .say)) =
+    record {
+      answer = rw e at (f .answer);
+      in-y = rw (handed-at (b .place) (x .say)) (rw e at (f .in-y));
+      in-cb = rw (handed-at (b .place) (x .say)) (rw e at (f .in-cb));
+      in-cr = rw (handed-at (b .place) (x .say)) (rw e at (f .in-cr));
+    } in
+    let h : heldOf (c .step .reader .sets) ≡ x .held = rw e at (f .held) in
+    let p : c .step .reader .place ≡ b .place + x .moved = rw e at (f .place) in
+    (got, rw (h, p) at (runs-get i j k s (c .step .reader) cs (l .1) (g .1)))
+
+-- Any calls of `read` over an accepted take, from its first byte with nothing held and with planes that are large enough: they answer its size and kind, its
+-- picture parameter set and each picture, in order and at their offsets, and each picture's call leaves its visible samples in the planes, stored tight;
+-- then End, however often it is asked for.
+pub host-round-trip : (i j k : ℕ) (T : Take) (cs : List Call) (n : ℕ) → Enough (roomOf i j k) (sizeOf T) → Lends i j k cs → Runs (bytesOf T) fresh cs
+    → length cs ≡ length (unitsOf T) + n → Gets cs (listed 0 (unitsOf T) (wordsOf T) ++ replicate n ended)
+host-round-trip i j k T cs n e l g m = rw (m, round-trip (roomOf i j k) T n e) at (runs-get i j k (bytesOf T) fresh cs l g)
+
+-- The same over the first n bytes of a take: the units that are whole within n, then at most one refusal, then End.
+pub host-cut : (i j k : ℕ) (T : Take) (n : ℕ) (cs : List Call) (m : ℕ) → Enough (roomOf i j k) (sizeOf T) → Lends i j k cs → Runs (take n (bytesOf T)) fresh cs
+    → length cs ≡ length (kept n (unitsOf T)) + (length (cutSays n T) + m) → Gets cs (listed 0 (kept n (unitsOf T)) (wordsOf T) ++ (cutSays n T ++ replicate m ended))
+host-cut i j k T n cs m e l g z = rw (z, cut (roomOf i j k) T n m e) at (runs-get i j k (take n (bytesOf T)) fresh cs l g)
+
+-- The same over a take of which a stretch m, behind the first picture's start code, is replaced by any m′: after some number of calls, which the damage alone
+-- decides, the calls answer and leave what they do in the undamaged take from the start code at k in b on, with the offsets moved.
+pub host-damage : (i j k : ℕ) (T : Take) (a x m m′ b : List ℕ) (o : ℕ) → Enough (roomOf i j k) (sizeOf T) → bytesOf T ≡ a ++ (m ++ b)
+    → a ≡ joined (spsUnit (sizeOf T) ∷ ppsUnit ∷ []) (0 ∷ startCode x) → code (drop o b) ≡ true
+    → (n : ℕ) × ((cs : List Call) (d : ℕ) → Lends i j k cs → Runs (a ++ (m′ ++ b)) fresh cs → length cs ≡ n + d
+    → Gets cs (answers (judge (roomOf i j k)) (a ++ (m′ ++ b)) n nothing 0
+    ++ map (moved (length m) (length m′)) (answers (judge (roomOf i j k)) (bytesOf T) d (having (sizeOf T) true) (length a + (length m + o)))))
+host-damage i j k T a x m m′ b o e v w c =
+    let p = damage (roomOf i j k) T a x m m′ b o e v w c in
+    (p .0, λ cs d l g z. rw (z, p .1 d) at (runs-get i j k (a ++ (m′ ++ b)) fresh cs l g))
