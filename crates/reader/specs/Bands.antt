@@ -130,7 +130,7 @@ pub record Shown (G : Grid) (vb vh my n h : ℕ) : Type 0 where
   pub some : 0 < G .bw
 
 -- The row stands at the place p of s as it does in the payload X.
-pub record Band (G : Grid) (s X : List ℕ) (my p n : ℕ) : Type 0 where
+pub record Band (G : Grid) (s X : List ℕ) (p n : ℕ) : Type 0 where
   pub same : (k : ℕ) → k < G .mw * (2 + G .size) → getD X (n + k) 0 ≡ getD s (p + k) 0
   pub inside : p + G .mw * (2 + G .size) ≤ length s
 
@@ -176,7 +176,7 @@ line-at {G} {mh} {vb} {vh} {my} {n} {h} f g y i l k =
 
 module _ {G : Grid} {mh vb vh : ℕ} (f : Fit G mh vb vh) {my n h : ℕ} (g : Shown G vb vh my n h) where
   -- the lines of the plane's blocks lie in the row of macroblocks
-  pub band-in : {s X : List ℕ} {p : ℕ} → Band G s X my p n → 2 + G .size ≤ 578 → Banded (length s) (2 + G .size) (p + 2 + G .off) (G .bw) (vb / G .bw) (vb % G .bw) h
+  pub band-in : {s X : List ℕ} {p : ℕ} → Band G s X p n → 2 + G .size ≤ 578 → Banded (length s) (2 + G .size) (p + 2 + G .off) (G .bw) (vb / G .bw) (vb % G .bw) h
   band-in w u =
       let d = div-add-mod' vb (G .bw) in
       let r : vb % G .bw < G .bw = mod-lt vb (g .some) in
@@ -192,7 +192,7 @@ module _ {G : Grid} {mh vb vh : ℕ} (f : Fit G mh vb vh) {my n h : ℕ} (g : Sh
       }
 
   -- so they are the plane's visible part there
-  pub lines-are : {s X : List ℕ} {p : ℕ} → Band G s X my p n → 2 + G .size ≤ 578
+  pub lines-are : {s X : List ℕ} {p : ℕ} → Band G s X p n → 2 + G .size ≤ 578
       → cat (linesOf s (2 + G .size) (p + 2 + G .off) (G .bw) (vb / G .bw) (vb % G .bw)) 0 h ≡ part (tightOf G X vb vh) (my * G .bh * vb) (h * vb)
   unfolding linesOf tightOf
   lines-are {s} {X} {p} w u = ext-getD 0 (cat F 0 h) (part T A (h * vb)) (cat-length even ∙ sym (part-length T A (h * vb) (omega (arith, long, room)))) go

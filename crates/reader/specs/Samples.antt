@@ -372,7 +372,7 @@ unfolding headPlace spot
 shown-by {q} {k = k} {my = my} g l b e =
     record { begins = omega arith; down = rw (b .rows, b .high) at (b .down); shown = rw (b .rows, b .high) at e; some = omega (arith, g .present k l .block-row) }
 
-band-by : {q : Sequence} {s X : List ℕ} {my p : ℕ} (k : ℕ) → RowStands s X q (my * picWidthInMbs q) p → Band (gridIn q k) s X my p (headPlace q (my * picWidthInMbs q))
+band-by : {q : Sequence} {s X : List ℕ} {i p : ℕ} (k : ℕ) → RowStands s X q i p → Band (gridIn q k) s X p (headPlace q i)
 band-by k r = record { same = r .same; inside = r .inside }
 
 pub band-room : {q : Sequence} {s X : List ℕ} {k my bw bh vb vh h p size off : ℕ} → Fine q → k < 3 → k < planes (q .form) → BlockBy q k my 0 bw bh vb vh
