@@ -4,7 +4,7 @@
 --     next-first           the next start code is not before the first fault
 --     unitOf s             the unit whose bytes begin at the front of s, less its trailing zeros
 --     unit-bad             that unit has a fault exactly where the first fault of s and two bytes more are in it
---     Sought s from r      what the search for the first fault finds, inserted bytes on the way counted in
+--     Seeking, Sought      the search for the first fault at a place that it has reached, and what it finds; the inserted bytes on its way are seen too
 --     Scanned s from r     the unit at a place of a slice: where the next start code or the end is, where the unit stops, whether it has a fault, from where on it is calm
 -- Assumes nothing.
 use mathlib.Core.Path.{_≡_, refl, sym, ap, _∙_}

@@ -3,7 +3,7 @@
 --     Passed s p e n r         r is a place behind the payload's next n bytes
 --     Took s p e n d a d′ r    those were written at the place a of a buffer that held d and holds d′, and r is a place behind them
 --     Stands s e X n p         p is the place of the byte n of the payload X: what a reader that knows X keeps of its place
---     pass-stretch             a stretch that keeps v; took-stretch, written as v; pass-calm, took-calm, where no byte of it is inserted
+--     pass-stretch             a stretch that keeps v; took-stretch, written as v; pass-calm, took-calm, where no byte of it is inserted; pass-zeros
 --     stands-start             the place behind a unit's header; stands-pass, stands-took, stands-stretch, stands-calm from there on
 -- Assumes nothing.
 use mathlib.Core.Path.{_≡_, refl, sym, ap, _∙_}
@@ -13,7 +13,7 @@ use Prim.Native.Nat.{ℕ, _+_, _-_, _≤_, _<_}
 use native.Mathlib.Nat.{add-zero}
 use native.Mathlib.Omega.{arith}
 use lib.Dec.{eqb}
-use lib.ListN.{length, take, drop, getD, set, length-drop}
+use lib.ListN.{length, take, drop, getD, set, replicate, length-drop, length-replicate}
 use lib.Seq.{take-add, take-at, drop-at, drop-drop, length-take-le, getD-drop}
 use borrow.Author.Tests.{eqb-true, eq-eqb}
 use Rattle.lists.specs.Fill.{splice, splice-none, splice-length, set-splice, splice-splice}
@@ -59,6 +59,10 @@ pass-stretch {s} p e m n v i h k l f w =
       low = omega (arith, kept-length s p m h (omega arith), ap length f);
       high = k;
     }
+
+-- zeros
+pub pass-zeros : {s : List ℕ} (p e m n : ℕ) → 1 ≤ p → p ≤ m → e ≤ length s → (kept s p m ≡ replicate n 0) × (m ≤ e) → Passed s p e n m
+pass-zeros p e m n i h l g = pass-stretch p e m n (replicate n 0) i h (g .1) l (g .0) (length-replicate n 0)
 
 -- Bytes taken
 

@@ -19,7 +19,7 @@ use lib.Seq.{drop-append-add, length-take-le, set-set, set-getD}
 use borrow.Author.Tests.{eqb-true, eqb-false, eq-eqb, ne-eqb}
 use Rattle.lists.specs.Fill.{splice, splice-none, splice-length}
 use Rattle.nal_unit.specs.Kept.{ins, insAt, kept, insCount, kept-more, kept-plain, kept-end, kept-append, kept-length, kept-some, count-step, count-end, count-append}
-use Rattle.nal_unit.specs.Taking.{Next, Passed, pass-none, pass-stretch, Took, took-next, took-more, took-stretch}
+use Rattle.nal_unit.specs.Taking.{Next, Passed, pass-none, Took, took-next, took-more, took-stretch}
 
 -- The test of an inserted byte
 
@@ -333,10 +333,6 @@ pairs-kept s p (suc (suc n)) g i h l r =
     let k = kept-append s p (p + 3) (p + 3 + 3 * suc n) (omega arith) (omega arith) (omega arith) (omega arith) in
     let q : Repeats s (p + 3) (3 * (suc n - 1)) = λ j b. rw (← add-assoc p 3 j) at (r (3 + j) (omega arith)) in
     rw (e, w, k, pair-kept g (omega arith) (omega arith), pairs-kept s (p + 3) (suc n) (pair-on g i (λ j b. r j (omega arith))) (omega arith) (omega arith) (omega arith) q) (replicate-append-replicate 2 (2 * suc n) 0)
-
--- an even count of bytes where the stretch is pairs of zeros
-pub pass-pairs : {s : List ℕ} (p e m n : ℕ) → 1 ≤ p → p + 3 * m ≤ e → e ≤ length s → 2 * m ≡ n → kept s p (p + 3 * m) ≡ replicate (2 * m) 0 → Passed s p e n (p + 3 * m)
-pass-pairs p e m n i h l f c = pass-stretch p e (p + 3 * m) n (replicate (2 * m) 0) i (omega arith) h l c (length-replicate (2 * m) 0 ∙ f)
 
 -- a row of any even width where the stretch is pairs of zeros
 pub took-pairs : {s : List ℕ} {d : List ℕ} {a : ℕ} {d′ : List ℕ} (p e n : ℕ) → 1 ≤ p → p + 3 * n ≤ e → e ≤ length s → kept s p (p + 3 * n) ≡ replicate (2 * n) 0

@@ -211,11 +211,11 @@ pub fn pairs(s: &[u8], p: usize, n: usize) -> bool
     f == 0
 }
 
-// A place behind the payload's next n bytes, where inserted bytes stand among them: pairs of zeros are passed at once, others by their counts.
-fn pass_marked(s: &[u8], p: usize, e: usize, n: usize) -> usize
+// A place behind the payload's next n bytes where these are found to be zeros in pairs, an inserted byte in each; the place p where they are not.
+pub fn zeros(s: &[u8], p: usize, e: usize, n: usize) -> usize
     requires { ⌜ (2 ≤ p) × (p ≤ e) × (e ≤ length (now s)) ⌝ }
     requires { ⌜ n ≤ length (kept (now s) p e) ⌝ }
-    ensures { λ r. ⌜ Passed (now (s .entry)) p e n r ⌝ }
+    ensures { λ r. ⌜ (p < r → (kept (now (s .entry)) p r ≡ replicate n 0) × (r ≤ e)) ⌝ }
 {
     let m = n / 2;
     if m > 0 {
@@ -226,6 +226,19 @@ fn pass_marked(s: &[u8], p: usize, e: usize, n: usize) -> usize
                 }
             }
         }
+    }
+    p
+}
+
+// A place behind the payload's next n bytes, where inserted bytes stand among them: pairs of zeros are passed at once, others by their counts.
+fn pass_marked(s: &[u8], p: usize, e: usize, n: usize) -> usize
+    requires { ⌜ (2 ≤ p) × (p ≤ e) × (e ≤ length (now s)) ⌝ }
+    requires { ⌜ n ≤ length (kept (now s) p e) ⌝ }
+    ensures { λ r. ⌜ Passed (now (s .entry)) p e n r ⌝ }
+{
+    let r = zeros(s, p, e, n);
+    if p < r {
+        return r;
     }
     skip(s, p, e, n)
 }

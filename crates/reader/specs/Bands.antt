@@ -1,10 +1,11 @@
--- A row of macroblocks that stands in a unit as it does in the payload, taken line by line of a plane: each line is a piece of every macroblock of the row.
+-- A row of macroblocks taken line by line of a plane: each line is a piece of every macroblock of the row.
 --     pieces s unit p bw full rest    `full` pieces of bw bytes that stand in s from p on, `unit` bytes apart, and the first `rest` bytes of one more
 --     Pieced, Banded                  the pieces of a line, of h lines, lie in the slice
 --     linesOf                         h lines: each begins bw bytes behind the one before it
 --     line-whole, line-more, line-laid   a line as it is laid
---     lines-are                       they are the plane's visible part in that row of macroblocks, stored tight
---     band-filled                     a plane into which they were written
+--     Shown, Band, Dark               a plane in a row of macroblocks; the row stands in s as in the payload; all its samples are zero
+--     lines-are, dark-are             the lines, or zeros, are the plane's visible part in that row, stored tight
+--     band-filled                     a plane into which that part was written
 -- Assumes nothing.
 use mathlib.Core.Path.{_≡_, refl, sym, ap, _∙_}
 use mathlib.Core.List.{List, _++_, append-nil}
@@ -12,7 +13,7 @@ use Prim.Native.Nat.{ℕ, _+_, _-_, _*_, _/_, _%_, _≤_, _<_, min}
 use native.Mathlib.Nat.{zero-add, mul-le-mul-right, lt-of-mul-lt-mul-right, div-add-mod', mod-lt}
 use native.Mathlib.Omega.{arith}
 use lib.Arith.{digits-lt, digits-div, digits-mod}
-use lib.ListN.{length, getD, length-append, List·getD-append}
+use lib.ListN.{length, getD, replicate, length-append, length-replicate, getD-replicate, List·getD-append}
 use lib.Seq.{ext-getD, getD-append-add}
 use Rattle.lists.specs.Fill.{splice, splice-length, splice-at, splice-before, splice-behind}
 use Rattle.lists.specs.Part.{part, part-at, part-none, part-length}
@@ -121,14 +122,21 @@ pieces-at s unit p bw full rest g n i l = either (full * bw) i behind before
 
 -- The plane's bytes
 
--- A row of macroblocks stands at the place p of s as it does at the byte n of the payload X; h of the lines of the plane's blocks are visible.
-pub record Band (G : Grid) (s X : List ℕ) (vb vh my p n h : ℕ) : Type 0 where
-  pub same : (k : ℕ) → k < G .mw * (2 + G .size) → getD X (n + k) 0 ≡ getD s (p + k) 0
-  pub inside : p + G .mw * (2 + G .size) ≤ length s
+-- Row my of macroblocks begins at the byte n of the payload, and h of the lines of the plane's blocks in it are visible.
+pub record Shown (G : Grid) (vb vh my n h : ℕ) : Type 0 where
   pub begins : spot G (my * G .mw) 0 ≡ n + 2
   pub down : my * G .bh < vh
   pub shown : h ≡ min (G .bh) (vh - my * G .bh)
   pub some : 0 < G .bw
+
+-- The row stands at the place p of s as it does in the payload X.
+pub record Band (G : Grid) (s X : List ℕ) (p n : ℕ) : Type 0 where
+  pub same : (k : ℕ) → k < G .mw * (2 + G .size) → getD X (n + k) 0 ≡ getD s (p + k) 0
+  pub inside : p + G .mw * (2 + G .size) ≤ length s
+
+-- All its samples are zero.
+pub record Dark (G : Grid) (X : List ℕ) (n : ℕ) : Type 0 where
+  pub zero : (x t : ℕ) → x < G .mw → t < G .size → getD X (n + (x * (2 + G .size) + (2 + t))) 0 ≡ 0
 
 spot-on : (G : Grid) (i m : ℕ) → spot G i 0 ≤ spot G (i + m) 0
 unfolding spot
@@ -138,47 +146,56 @@ spot-on G i m = omega arith
 le-of-mul-le : (m a b : ℕ) → 0 < m → a * m ≤ b * m → a ≤ b
 le-of-mul-le m a b h l = either a b (λ e. e) (λ e. absurd (omega (arith, mul-le-mul-right m e)))
 
-module _ {G : Grid} {mh vb vh : ℕ} (f : Fit G mh vb vh) {s X : List ℕ} {my p n h : ℕ} (g : Band G s X vb vh my p n h) where
-  -- a byte of a line
-  line-byte : (y i : ℕ) → y < h → i < vb
-      → getD X (posOf G vb ((my * G .bh + y) * vb + i)) 0 ≡ getD s (p + 2 + G .off + y * G .bw + i / G .bw * (2 + G .size) + i % G .bw) 0
-  unfolding spot
-  line-byte y i l k =
-      let x = i / G .bw in
-      let t = i % G .bw in
-      let a : i < G .mw * G .bw = omega (arith, f .wide) in
-      let b : x < G .mw = high-below (G .mw) (G .bw) i a in
-      let c : t < G .bw = low-below (G .mw) (G .bw) i a in
-      let d : x * G .bw + t ≡ i = div-add-mod' i (G .bw) in
-      let m : y < G .bh = omega (arith, g .shown) in
-      let o : posOf G vb ((my * G .bh + y) * vb + i) ≡ place G (my * G .bh + y) x + t = ap (λ (m : ℕ). posOf G vb ((my * G .bh + y) * vb + m)) (sym d) ∙ pos-row G vb (my * G .bh + y) x t (omega arith) c in
-      let w = place-block G my x y m in
-      let j : ℕ = 2 + x * (2 + G .size) + G .off + y * G .bw + t in
-      let q : posOf G vb ((my * G .bh + y) * vb + i) ≡ n + j = omega (arith, o, w, g .begins) in
-      let v : j < G .mw * (2 + G .size) = omega (arith, f .within, mul-le-mul-right (2 + G .size) b, mul-le-mul-right (G .bw) m) in
-      ap (λ (m : ℕ). getD X m 0) q ∙ (g .same j v ∙ ap (λ (m : ℕ). getD s m 0) (omega arith))
+-- The byte i of a line is in the block column i / bw. It stands among the samples of that macroblock.
+record At (G : Grid) (vb my n y i : ℕ) : Type 0 where
+  column : i / G .bw < G .mw
+  byte : ℕ
+  within : byte < G .size
+  is : byte ≡ G .off + y * G .bw + i % G .bw
+  place : posOf G vb ((my * G .bh + y) * vb + i) ≡ n + (i / G .bw * (2 + G .size) + (2 + byte))
 
+line-at : {G : Grid} {mh vb vh my n h : ℕ} → Fit G mh vb vh → Shown G vb vh my n h → (y i : ℕ) → y < h → i < vb → At G vb my n y i
+unfolding spot
+line-at {G} {mh} {vb} {vh} {my} {n} {h} f g y i l k =
+    let x = i / G .bw in
+    let t = i % G .bw in
+    let a : i < G .mw * G .bw = omega (arith, f .wide) in
+    let b : x < G .mw = high-below (G .mw) (G .bw) i a in
+    let c : t < G .bw = low-below (G .mw) (G .bw) i a in
+    let d : x * G .bw + t ≡ i = div-add-mod' i (G .bw) in
+    let m : y < G .bh = omega (arith, g .shown) in
+    let o : posOf G vb ((my * G .bh + y) * vb + i) ≡ place G (my * G .bh + y) x + t = ap (λ (m : ℕ). posOf G vb ((my * G .bh + y) * vb + m)) (sym d) ∙ pos-row G vb (my * G .bh + y) x t (omega arith) c in
+    let w = place-block G my x y m in
+    record {
+      column = b;
+      byte = G .off + y * G .bw + t;
+      within = omega (arith, f .within, mul-le-mul-right (G .bw) m);
+      is = refl;
+      place = omega (arith, o, w, g .begins);
+    }
+
+module _ {G : Grid} {mh vb vh : ℕ} (f : Fit G mh vb vh) {my n h : ℕ} (g : Shown G vb vh my n h) where
   -- the lines of the plane's blocks lie in the row of macroblocks
-  pub band-in : 2 + G .size ≤ 578 → Banded (length s) (2 + G .size) (p + 2 + G .off) (G .bw) (vb / G .bw) (vb % G .bw) h
-  band-in u =
+  pub band-in : {s X : List ℕ} {p : ℕ} → Band G s X p n → 2 + G .size ≤ 578 → Banded (length s) (2 + G .size) (p + 2 + G .off) (G .bw) (vb / G .bw) (vb % G .bw) h
+  band-in w u =
       let d = div-add-mod' vb (G .bw) in
       let r : vb % G .bw < G .bw = mod-lt vb (g .some) in
       let m : h ≤ G .bh = omega (arith, g .shown) in
       let c = mul-le-mul-right (G .bw) m in
       let full : vb / G .bw ≤ G .mw = le-of-mul-le (G .bw) (vb / G .bw) (G .mw) (g .some) (omega (arith, f .wide)) in
       record {
-        within = omega (arith, g .inside, mul-le-mul-right (2 + G .size) full);
-        last = omega (arith, g .inside, f .within, mul-le-mul-right (2 + G .size) full);
-        more = λ z. let k : vb / G .bw < G .mw = lt-of-mul-lt-mul-right (G .bw) (omega (arith, f .wide)) in omega (arith, g .inside, f .within, mul-le-mul-right (2 + G .size) k);
+        within = omega (arith, w .inside, mul-le-mul-right (2 + G .size) full);
+        last = omega (arith, w .inside, f .within, mul-le-mul-right (2 + G .size) full);
+        more = λ z. let k : vb / G .bw < G .mw = lt-of-mul-lt-mul-right (G .bw) (omega (arith, f .wide)) in omega (arith, w .inside, f .within, mul-le-mul-right (2 + G .size) k);
         narrow = omega arith;
         few = u;
       }
 
   -- so they are the plane's visible part there
-  pub lines-are : 2 + G .size ≤ 578
+  pub lines-are : {s X : List ℕ} {p : ℕ} → Band G s X p n → 2 + G .size ≤ 578
       → cat (linesOf s (2 + G .size) (p + 2 + G .off) (G .bw) (vb / G .bw) (vb % G .bw)) 0 h ≡ part (tightOf G X vb vh) (my * G .bh * vb) (h * vb)
   unfolding linesOf tightOf
-  lines-are u = ext-getD 0 (cat F 0 h) (part T A (h * vb)) (cat-length even ∙ sym (part-length T A (h * vb) (omega (arith, long, room)))) go
+  lines-are {s} {X} {p} w u = ext-getD 0 (cat F 0 h) (part T A (h * vb)) (cat-length even ∙ sym (part-length T A (h * vb) (omega (arith, long, room)))) go
     where
       F : ℕ → List ℕ
       F = linesOf s (2 + G .size) (p + 2 + G .off) (G .bw) (vb / G .bw) (vb % G .bw)
@@ -193,10 +210,10 @@ module _ {G : Grid} {mh vb vh : ℕ} (f : Fit G mh vb vh) {s X : List ℕ} {my p
       wide = div-add-mod' vb (G .bw)
 
       pieced : (y : ℕ) → y < h → Pieced (length s) (2 + G .size) (p + 2 + G .off + y * G .bw) (G .bw) (vb / G .bw) (vb % G .bw)
-      pieced y l = line-in (band-in u) y l
+      pieced y l = line-in (band-in w u) y l
 
       even : Even F vb 0 h
-      even = rw wide at (lines-even s (2 + G .size) (p + 2 + G .off) (G .bw) (vb / G .bw) (vb % G .bw) h (band-in u))
+      even = rw wide at (lines-even s (2 + G .size) (p + 2 + G .off) (G .bw) (vb / G .bw) (vb % G .bw) h (band-in w u))
 
       long : length T ≡ vh * vb
       long = tight-length G X vb vh
@@ -218,7 +235,41 @@ module _ {G : Grid} {mh vb vh : ℕ} (f : Fit G mh vb vh) {s X : List ℕ} {my p
           part-at T A (h * vb) j k ∙ (tab-at (λ j. getD X (posOf G vb j) 0) 0 (vh * vb) (A + j) (omega (arith, room)) ∙ ap (λ (m : ℕ). getD X (posOf G vb m) 0) q) in
           let mid : getD (F (0 + y)) i 0 ≡ getD s (p + 2 + G .off + y * G .bw + i / G .bw * (2 + G .size) + i % G .bw) 0 =
           rw (zero-add y) (pieces-at s (2 + G .size) (p + 2 + G .off + y * G .bw) (G .bw) (vb / G .bw) (vb % G .bw) (pieced y b) (mod-lt vb (g .some)) i (omega (arith, wide))) in
-          left ∙ (mid ∙ (sym (line-byte y i b c) ∙ sym right))
+          let a = line-at f g y i b c in
+          let m : i / G .bw * (2 + G .size) + (2 + a .byte) < G .mw * (2 + G .size) = omega (arith, a .within, mul-le-mul-right (2 + G .size) (a .column)) in
+          let byte : getD X (posOf G vb ((my * G .bh + y) * vb + i)) 0 ≡ getD s (p + 2 + G .off + y * G .bw + i / G .bw * (2 + G .size) + i % G .bw) 0 =
+          ap (λ (k : ℕ). getD X k 0) (a .place) ∙ (w .same (i / G .bw * (2 + G .size) + (2 + a .byte)) m ∙ ap (λ (k : ℕ). getD s k 0) (omega (arith, a .is))) in
+          left ∙ (mid ∙ (sym byte ∙ sym right))
+
+  -- where all samples are zero, so is that part
+  pub dark-are : {X : List ℕ} → Dark G X n → part (tightOf G X vb vh) (my * G .bh * vb) (h * vb) ≡ replicate (h * vb) 0
+  unfolding tightOf
+  dark-are {X} w = ext-getD 0 (part T A (h * vb)) (replicate (h * vb) 0) (long ∙ sym (length-replicate (h * vb) 0)) go
+    where
+      T : List ℕ
+      T = tightOf G X vb vh
+
+      A : ℕ
+      A = my * G .bh * vb
+
+      room : A + h * vb ≤ vh * vb
+      room = let k : my * G .bh + h ≤ vh = omega (arith, g .shown, g .down) in omega (arith, mul-le-mul-right vb k)
+
+      long : length (part T A (h * vb)) ≡ h * vb
+      long = part-length T A (h * vb) (omega (arith, tight-length G X vb vh, room))
+
+      go : (j : ℕ) → j < length (part T A (h * vb)) → getD (part T A (h * vb)) j 0 ≡ getD (replicate (h * vb) 0) j 0
+      go j l =
+          let k : j < h * vb = rw long at l in
+          let y = j / vb in
+          let i = j % vb in
+          let d : y * vb + i ≡ j = div-add-mod' j vb in
+          let q : 0 + (A + j) ≡ (my * G .bh + y) * vb + i = omega arith in
+          let a = line-at f g y i (high-below h vb j k) (low-below h vb j k) in
+          part-at T A (h * vb) j k
+          ∙ (tab-at (λ j. getD X (posOf G vb j) 0) 0 (vh * vb) (A + j) (omega (arith, room))
+          ∙ (ap (λ (m : ℕ). getD X (posOf G vb m) 0) q
+          ∙ (ap (λ (m : ℕ). getD X m 0) (a .place) ∙ (w .zero (i / G .bw) (a .byte) (a .column) (a .within) ∙ sym (getD-replicate (h * vb) j 0 0 k)))))
 
   -- Where the bytes of the visible part stand: those before the band before the row of macroblocks, those of the band in it, those behind it behind it.
   record Where (j : ℕ) : Type 0 where
@@ -257,10 +308,10 @@ module _ {G : Grid} {mh vb vh : ℕ} (f : Fit G mh vb vh) {s X : List ℕ} {my p
       }
 
   -- a plane into which the band was written
-  pub band-filled : {d out : List ℕ} → Filled d X (posOf G vb) (vh * vb) out (spot G (my * G .mw) 0)
+  pub band-filled : {d X out : List ℕ} → Filled d X (posOf G vb) (vh * vb) out (spot G (my * G .mw) 0)
       → Filled d X (posOf G vb) (vh * vb) (splice out (my * G .bh * vb) (part (tightOf G X vb vh) (my * G .bh * vb) (h * vb))) (spot G (my * G .mw + G .mw) 0)
   unfolding tightOf
-  band-filled {d} {out} u =
+  band-filled {d} {X} {out} u =
       record { long = long; room = u .room; new = new; old = old; behind = behind }
     where
       T : List ℕ

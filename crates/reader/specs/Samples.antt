@@ -4,6 +4,7 @@
 --     BlockBy, BlockTook        a block by the numbers that the code has; what is visible of it was taken
 --     Steps, MbsTook            what is visible of some macroblocks was taken into a plane, into the three
 --     RowStands, band-steps     a row of macroblocks without inserted bytes, and what is visible of a plane in it
+--     DarkRow, dark-steps       one all samples of which are zero
 --     MbsTaking                 macroblocks that are being taken
 --     PlanesTook                the planes begin with the visible samples, stored tight, and are what they were behind them
 -- Assumes nothing.
@@ -12,16 +13,16 @@ use mathlib.Core.List.{List, _++_}
 use Prim.Native.Nat.{ℕ, zero, suc, _+_, _-_, _*_, _/_, _%_, _≤_, _<_, min}
 use lib.Arith.{digits-lt}
 use mathlib.Core.Bool.{true, false}
-use native.Mathlib.Nat.{zero-mul, add-mul, mul-le-mul, mul-le-mul-left, mul-le-mul-right, div-add-mod'}
+use native.Mathlib.Nat.{add-zero, zero-mul, add-mul, mul-le-mul, mul-le-mul-left, mul-le-mul-right, div-add-mod'}
 use native.Mathlib.Omega.{arith}
 use mathlib.Core.Logic.{inl, inr}
 use lib.Dec.{eqb}
-use lib.ListN.{length, drop, getD}
-use Rattle.lists.specs.Fill.{splice}
+use lib.ListN.{length, drop, getD, replicate, length-replicate, getD-replicate}
+use Rattle.lists.specs.Fill.{splice, splice-length}
 use Rattle.lists.specs.Part.{part, part-at}
 use Rattle.lists.specs.Test.{either}
 use Rattle.nal_unit.specs.Kept.{kept, insCount, kept-room}
-use Rattle.nal_unit.specs.Taking.{Passed, Took, Stands, stands-pass, stands-room, stands-took, stands-calm}
+use Rattle.nal_unit.specs.Taking.{Passed, Took, Stands, stands-pass, stands-room, stands-took, stands-stretch, stands-calm}
 use Rattle.slice.specs.Filling.{Filled, fill-skip, Fills, fills-none, fills-more}
 use Rattle.slice.specs.Cat.{cat, cat-length}
 use Rattle.slice.specs.Laid.{Laid, laid-length}
@@ -32,7 +33,7 @@ use Rattle.ycbcr_image.specs.Form.{Form, mono, inPlane, planes, planes-some, pl
 use Rattle.ycbcr_image.specs.Sizes.{Sequence, next-high, picWidthInMbs, frameHeightInMbs, visibleWidth, visibleHeight, visibleRowBytes, paddedWidth, paddedHeight, tightLength}
 use Rattle.ycbcr_image.specs.Accepted.{Fine, payload-most, tight-most}
 use Rattle.reader.specs.Heads.{payloadAt}
-use Rattle.reader.specs.Bands.{Banded, Band, linesOf, lines-even, band-in, lines-are, band-filled}
+use Rattle.reader.specs.Bands.{Banded, Shown, Band, linesOf, lines-even, band-in, lines-are, dark-are, band-filled}
 
 -- h rows of bw bytes of the payload from its byte n on were taken, the first w bytes of each, into a plane that held d and holds d′; r is the place behind them
 pub record RowsTook (s : List ℕ) (o e n : ℕ) (d : List ℕ) (a w bw step h : ℕ) (d′ : List ℕ) (r : ℕ) : Type 0 where
@@ -338,13 +339,17 @@ pub record RowStands (s X : List ℕ) (q : Sequence) (i p : ℕ) : Type 0 where
   pub inside : p + picWidthInMbs q * (2 + mbBytes (q .form)) ≤ length s
 
 -- it is there
+pub row-long : {q : Sequence} {n w size : ℕ} (X : List ℕ) → Fine q → length X ≡ pictureLength q → (my : ℕ) → my < frameHeightInMbs q → n ≡ headPlace q (my * picWidthInMbs q)
+    → w ≡ picWidthInMbs q → size ≡ mbBytes (q .form) → n + w * (2 + size) ≤ length X
+unfolding headPlace pictureLength
+row-long {q} X g l my h f a b =
+    let k : my * picWidthInMbs q + picWidthInMbs q ≤ mbsIn q = omega (arith, mul-le-mul-right (picWidthInMbs q) h) in
+    rw (a, b) (omega (arith, l, f, mul-le-mul-right (2 + mbBytes (q .form)) k))
+
 pub row-there : {q : Sequence} {s X : List ℕ} {e n p r : ℕ} → Fine q → length X ≡ pictureLength q → (my : ℕ) → my < frameHeightInMbs q
     → n ≡ headPlace q (my * picWidthInMbs q) → r ≡ picWidthInMbs q * (2 + mbBytes (q .form)) → Stands s e X n p → p + r ≤ e
-unfolding headPlace pictureLength
-row-there {q} {s} {e = e} {p = p} {r = r} g l my h f w t =
-    let a : my * picWidthInMbs q + picWidthInMbs q ≤ mbsIn q = omega (arith, mul-le-mul-right (picWidthInMbs q) h) in
-    let b = mul-le-mul-right (2 + mbBytes (q .form)) a in
-    kept-room s p e r (t .high) (t .inside) (stands-room r t (omega (arith, l, f, w)))
+row-there {q} {s} {X} {e} {p = p} {r = r} g l my h f w t =
+    kept-room s p e r (t .high) (t .inside) (stands-room r t (rw w (row-long X g l my h f refl refl)))
 
 -- and no byte of it is an inserted one
 pub row-stands : {q : Sequence} {s X : List ℕ} {e n p r : ℕ} (i : ℕ) → Stands s e X n p → n ≡ headPlace q i → r ≡ picWidthInMbs q * (2 + mbBytes (q .form)) → p + r ≤ e
@@ -361,24 +366,20 @@ row-stands {q} {s} {X} {e} {n} {p} {r} i g f w l t =
     )
 
 -- a plane's band in it; the numbers are those that the code has
-pub band-by : {q : Sequence} {s X : List ℕ} {k my bw bh vb vh h p : ℕ} → Fine q → k < planes (q .form) → BlockBy q k my 0 bw bh vb vh → RowStands s X q (my * picWidthInMbs q) p
-    → h ≡ min bh (vh - my * bh) → Band (gridIn q k) s X (visibleRowBytes q k) (visibleHeight q k) my p (headPlace q (my * picWidthInMbs q)) h
+shown-by : {q : Sequence} {k my bw bh vb vh h : ℕ} → Fine q → k < planes (q .form) → BlockBy q k my 0 bw bh vb vh → h ≡ min bh (vh - my * bh)
+    → Shown (gridIn q k) (visibleRowBytes q k) (visibleHeight q k) my (headPlace q (my * picWidthInMbs q)) h
 unfolding headPlace spot
-band-by {q} {k = k} {my = my} g l b r e =
-    record {
-      same = r .same;
-      inside = r .inside;
-      begins = omega arith;
-      down = rw (b .rows, b .high) at (b .down);
-      shown = rw (b .rows, b .high) at e;
-      some = omega (arith, g .present k l .block-row);
-    }
+shown-by {q} {k = k} {my = my} g l b e =
+    record { begins = omega arith; down = rw (b .rows, b .high) at (b .down); shown = rw (b .rows, b .high) at e; some = omega (arith, g .present k l .block-row) }
+
+band-by : {q : Sequence} {s X : List ℕ} {i p : ℕ} (k : ℕ) → RowStands s X q i p → Band (gridIn q k) s X p (headPlace q i)
+band-by k r = record { same = r .same; inside = r .inside }
 
 pub band-room : {q : Sequence} {s X : List ℕ} {k my bw bh vb vh h p size off : ℕ} → Fine q → k < 3 → k < planes (q .form) → BlockBy q k my 0 bw bh vb vh
     → RowStands s X q (my * picWidthInMbs q) p → h ≡ min bh (vh - my * bh) → size ≡ mbBytes (q .form) → off ≡ offIn (q .form) k
     → Banded (length s) (2 + size) (p + 2 + off) bw (vb / bw) (vb % bw) h
 band-room {q} {k = k} g m l b r e u v =
-    rw (u, v, b .row, b .wide) (band-in (fits g k m) (band-by g l b r e) (omega (arith, g .known .mb-most)))
+    rw (u, v, b .row, b .wide) (band-in (fits g k m) (shown-by g l b e) (band-by k r) (omega (arith, g .known .mb-most)))
 
 pub band-fits : {q : Sequence} {k my bw bh vb vh h len : ℕ} → BlockBy q k my 0 bw bh vb vh → h ≡ min bh (vh - my * bh) → 0 < bw → tightLength q k ≤ len
     → my * bh * vb + h * (vb / bw * bw + vb % bw) ≤ len
@@ -386,18 +387,80 @@ band-fits {my = my} {bw = bw} {bh = bh} {vb = vb} {vh = vh} {h = h} b e z l =
     let a : my * bh + h ≤ vh = omega (arith, b .down) in
     rw (div-add-mod' vb bw) (omega (arith, b .tight, mul-le-mul-right vb a))
 
+-- what is visible of plane k in the row my, stored tight
+abbrev bandOf : Sequence → ℕ → List ℕ → ℕ → ℕ → List ℕ
+bandOf q k X my h = part (tightOf (gridIn q k) X (visibleRowBytes q k) (visibleHeight q k)) (my * blockHeight (q .form) k * visibleRowBytes q k) (h * visibleRowBytes q k)
+
+band-took : {q : Sequence} {X d d′ : List ℕ} {k my bw bh vb vh h : ℕ} → Fine q → k < 3 → k < planes (q .form) → BlockBy q k my 0 bw bh vb vh → h ≡ min bh (vh - my * bh)
+    → length d′ ≡ length d → d′ ≡ splice d (my * bh * vb) (bandOf q k X my h) → Steps q k X (my * picWidthInMbs q) (my * picWidthInMbs q + picWidthInMbs q) d d′
+band-took {q} {X} {d} {d′} {k} {my} {h = h} g m l b e w t =
+    let z : d′ ≡ splice d (my * blockHeight (q .form) k * visibleRowBytes q k) (bandOf q k X my h) = rw (b .rows, b .wide) at t in
+    record { long = w; step = λ i. rw z (band-filled (fits g k m) (shown-by g l b e) i) }
+
 pub band-steps : {q : Sequence} {s X d d′ : List ℕ} {k my bw bh vb vh h p size off r : ℕ} → Fine q → k < 3 → k < planes (q .form) → BlockBy q k my 0 bw bh vb vh
     → RowStands s X q (my * picWidthInMbs q) p → h ≡ min bh (vh - my * bh) → size ≡ mbBytes (q .form) → off ≡ offIn (q .form) k → tightLength q k ≤ length d
     → Laid d (my * bh * vb) (cat (linesOf s (2 + size) (p + 2 + off) bw (vb / bw) (vb % bw)) 0 h) d′ r
     → Steps q k X (my * picWidthInMbs q) (my * picWidthInMbs q + picWidthInMbs q) d d′
 band-steps {q} {s} {X} {d} {d′} {k} {my} {bw} {bh} {vb} {vh} {h} {p} {size} {off} g m l b r e u v w t =
-    let f = band-by g l b r e in
     let o = cat-length (lines-even s (2 + size) (p + 2 + off) bw (vb / bw) (vb % bw) h (band-room g m l b r e u v)) in
-    let a : my * bh * vb ≡ my * blockHeight (q .form) k * visibleRowBytes q k = rw (b .rows, b .wide) refl in
-    let c : cat (linesOf s (2 + size) (p + 2 + off) bw (vb / bw) (vb % bw)) 0 h ≡ part (tightOf (gridIn q k) X (visibleRowBytes q k) (visibleHeight q k)) (my * blockHeight (q .form) k * visibleRowBytes q k) (h * visibleRowBytes q k) =
-    rw (u, v, b .row, b .wide) (lines-are (fits g k m) f (omega (arith, g .known .mb-most))) in
-    let z : d′ ≡ splice d (my * blockHeight (q .form) k * visibleRowBytes q k) (part (tightOf (gridIn q k) X (visibleRowBytes q k) (visibleHeight q k)) (my * blockHeight (q .form) k * visibleRowBytes q k) (h * visibleRowBytes q k)) = rw (a, c) at (t .bytes) in
-    record { long = laid-length t (omega (arith, o, band-fits b e (omega (arith, b .row, g .present k l .block-row)) w)); step = λ i. rw z (band-filled (fits g k m) f i) }
+    let c : cat (linesOf s (2 + size) (p + 2 + off) bw (vb / bw) (vb % bw)) 0 h ≡ bandOf q k X my h =
+    rw (u, v, b .row, b .wide) (lines-are (fits g k m) (shown-by g l b e) (band-by k r) (omega (arith, g .known .mb-most))) in
+    band-took g m l b e (laid-length t (omega (arith, o, band-fits b e (omega (arith, b .row, g .present k l .block-row)) w))) (rw c at (t .bytes))
+
+-- the same where all samples of the row are zero
+pub dark-fits : {q : Sequence} {k my bw bh vb vh h len : ℕ} → BlockBy q k my 0 bw bh vb vh → h ≡ min bh (vh - my * bh) → tightLength q k ≤ len → my * bh * vb + h * vb ≤ len
+dark-fits {my = my} {bh = bh} {vb = vb} {vh = vh} {h = h} b e l =
+    let a : my * bh + h ≤ vh = omega (arith, b .down) in
+    omega (arith, b .tight, mul-le-mul-right vb a)
+
+pub dark-steps : {q : Sequence} {X d d′ : List ℕ} {k my bw bh vb vh h : ℕ} → Fine q → k < 3 → k < planes (q .form) → BlockBy q k my 0 bw bh vb vh
+    → ((x t : ℕ) → x < picWidthInMbs q → t < mbBytes (q .form) → getD X (headPlace q (my * picWidthInMbs q) + (x * (2 + mbBytes (q .form)) + (2 + t))) 0 ≡ 0)
+    → h ≡ min bh (vh - my * bh) → tightLength q k ≤ length d → d′ ≡ splice d (my * bh * vb) (replicate (h * vb) 0)
+    → Steps q k X (my * picWidthInMbs q) (my * picWidthInMbs q + picWidthInMbs q) d d′
+dark-steps {q} {X} {d} {k = k} {my = my} {bh = bh} {vb = vb} {h = h} g m l b r e w t =
+    let o = splice-length d (my * bh * vb) (replicate (h * vb) 0) (omega (arith, length-replicate {A = ℕ} (h * vb) 0, dark-fits b e w)) in
+    let c : replicate (h * vb) 0 ≡ bandOf q k X my h = rw (b .wide) (sym (dark-are (fits g k m) (shown-by g l b e) (record { zero = r }))) in
+    band-took g m l b e (ap length t ∙ o) (rw c at t)
+
+-- Of a row of macroblocks of `size` bytes of samples, which begins at the byte n of the payload X, m were found whose samples are all zero; r is the place behind them.
+pub record DarkRow (s : List ℕ) (e : ℕ) (X : List ℕ) (size n m r : ℕ) : Type 0 where
+  pub at : Stands s e X (n + m * (2 + size)) r
+  pub zero : (x t : ℕ) → x < m → t < size → getD X (n + (x * (2 + size) + (2 + t))) 0 ≡ 0
+
+pub dark-start : {s : List ℕ} {e : ℕ} {X : List ℕ} {n p : ℕ} (size : ℕ) → Stands s e X n p → DarkRow s e X size n 0 p
+dark-start {n = n} size g = record { at = stands-as (let z : n ≡ n + 0 * (2 + size) = omega arith in z) g; zero = λ x t h. absurd (omega arith) }
+
+-- the head of the next is there, and its samples
+pub dark-head : {s : List ℕ} {e : ℕ} {X : List ℕ} {size n m w a : ℕ} → DarkRow s e X size n m a → m < w → n + w * (2 + size) ≤ length X → 2 ≤ length (kept s a e)
+dark-head {size = size} d h l = stands-room 2 (d .at) (omega (arith, mul-le-mul-right (2 + size) h))
+
+pub dark-samples : {s : List ℕ} {e : ℕ} {X : List ℕ} {size n m w a b : ℕ} → DarkRow s e X size n m a → m < w → n + w * (2 + size) ≤ length X → Passed s a e 2 b → size ≤ length (kept s b e)
+dark-samples {size = size} d h l w = stands-room size (stands-pass (d .at) w) (omega (arith, mul-le-mul-right (2 + size) h))
+
+pub dark-turn : {s : List ℕ} {e : ℕ} {X : List ℕ} {size n m a b r : ℕ} → DarkRow s e X size n m a → Passed s a e 2 b → b < r → (kept s b r ≡ replicate size 0) × (r ≤ e)
+    → DarkRow s e X size n (m + 1) r
+dark-turn {s} {e} {X} {size} {n} {m} {a} {b} {r} d w h z =
+    let c = stands-stretch r size (replicate size 0) (stands-pass (d .at) w) (omega arith) (z .1) (z .0) (length-replicate size 0) in
+    let o : ℕ = n + m * (2 + size) + 2 in
+    let k : o + size ≡ n + (m + 1) * (2 + size) = omega arith in
+    record { at = stands-as k (c .1); zero = λ x t l u. either m x (λ v. here c x t (omega arith) u) (λ v. d .zero x t v u) }
+  where
+    here : (part X (n + m * (2 + size) + 2) size ≡ replicate size 0) × Stands s e X (n + m * (2 + size) + 2 + size) r → (x t : ℕ) → x ≡ m → t < size
+        → getD X (n + (x * (2 + size) + (2 + t))) 0 ≡ 0
+    here c x t f u =
+        let o : ℕ = n + m * (2 + size) + 2 in
+        let y : n + (x * (2 + size) + (2 + t)) ≡ o + t = rw f (omega arith) in
+        ap (λ (j : ℕ). getD X j 0) y ∙ (sym (part-at X o size t u) ∙ (ap (λ (v : List ℕ). getD v t 0) (c .0) ∙ getD-replicate size t 0 0 u))
+
+-- the whole row, by the numbers of the picture
+pub dark-row : {s : List ℕ} {e : ℕ} {X : List ℕ} {size n m r : ℕ} (q : Sequence) (i : ℕ) → size ≡ mbBytes (q .form) → n ≡ headPlace q i → m ≡ picWidthInMbs q → DarkRow s e X size n m r
+    → DarkRow s e X (mbBytes (q .form)) (headPlace q i) (picWidthInMbs q) r
+dark-row q i a b c d = rw (a, b, c) at d
+
+pub dark-behind : {s : List ℕ} {e : ℕ} {X : List ℕ} {r : ℕ} (q : Sequence) (i : ℕ) → DarkRow s e X (mbBytes (q .form)) (headPlace q i) (picWidthInMbs q) r
+    → Stands s e X (headPlace q (i + picWidthInMbs q)) r
+unfolding headPlace
+dark-behind q i d = let z : 2 + i * (2 + mbBytes (q .form)) + picWidthInMbs q * (2 + mbBytes (q .form)) ≡ 2 + (i + picWidthInMbs q) * (2 + mbBytes (q .form)) = omega arith in stands-as z (d .at)
 
 -- the row was taken: in monochrome the band of one plane, in colour those of three
 pub mono-row : {s : List ℕ} {o e : ℕ} {q : Sequence} {y y′ : List ℕ} {r : ℕ} (i : ℕ) (cb cr : List ℕ) → mono (q .form) ≡ true → Steps q 0 (payloadAt s o e) i (i + picWidthInMbs q) y y′

@@ -1,6 +1,6 @@
 // A picture's visible samples, taken from its unit into lent planes with tight rows (paper 01, "Reading a take"). The unit begins with its header byte at
 // the place o and ends at e, and no inserted byte stands in it from the place c on. A row of macroblocks without inserted bytes is taken line by line of
-// each plane, so that a plane is written from its first byte to its last; another macroblock by macroblock.
+// each plane, so that a plane is written from its first byte to its last; so is one all samples of which are zero; another macroblock by macroblock.
 use nal_unit::rows;
 use nal_unit::taking;
 use ycbcr_image::Session;
@@ -21,7 +21,7 @@ ghost use Rattle.slice.specs.Laid.{Laid};
 ghost use Rattle.slice.specs.Picture.{pictureLength, offIn};
 ghost use Rattle.reader.specs.Heads.{UnitAt, payloadAt};
 ghost use Rattle.reader.specs.Bands.{pieces, linesOf, Pieced, Banded};
-ghost use Rattle.reader.specs.Samples.{RowsTook, BlockTook, headPlace, Rooms, MbsTook, Steps, RowStands, PlanesTook};
+ghost use Rattle.reader.specs.Samples.{RowsTook, BlockTook, headPlace, Rooms, MbsTook, Steps, RowStands, DarkRow, PlanesTook};
 
 // Takes h rows of bw bytes, which stand in the payload from its byte n on, at the place p of the unit: of each the first w bytes, into the output from the
 // place `at` on, `step` bytes from row to row. Answers the place behind them.
@@ -358,6 +358,71 @@ fn take_calm(
     p + row
 }
 
+// A place behind row my of macroblocks where all its samples are found to be zero, 0 where they are not.
+fn dark(s: &[u8], o: usize, e: usize, c: usize, p: usize, n: usize, q: Session, my: usize) -> usize
+    requires { ⌜ Stands (now s) e (payloadAt (now s) o e) n p ⌝ }
+    requires { ⌜ (Fine (sequenceOf q)) × (length (payloadAt (now s) o e) ≡ pictureLength (sequenceOf q)) ⌝ }
+    requires { ⌜ (my < frameHeightInMbs (sequenceOf q)) × (n ≡ headPlace (sequenceOf q) (my * picWidthInMbs (sequenceOf q))) ⌝ }
+    requires { ⌜ insCount (now s) c e ≡ 0 ⌝ }
+    ensures { λ r. ⌜ (0 < r → DarkRow (now (s .entry)) e (payloadAt (now (s .entry)) o e) (mbBytes (sequenceOf q .form)) (headPlace (sequenceOf q) (my * picWidthInMbs (sequenceOf q))) (picWidthInMbs (sequenceOf q)) r) ⌝ }
+{
+    let mw = ycbcr_image::mbs_width(q);
+    let size = ycbcr_image::mb_bytes(q);
+    let mut a = p;
+    let mut mx = 0;
+    while mx < mw {
+        let b = taking::pass(s, a, e, c, 2);
+        let r = taking::zeros(s, b, e, size);
+        if r <= b {
+            return 0;
+        }
+        a = r;
+        mx += 1;
+    }
+    a
+}
+
+// Writes what is visible of plane k in row my of macroblocks, all samples of which are zero and which ends at the place r.
+fn zero_band(s: &[u8], o: usize, e: usize, r: usize, q: Session, k: u32, my: usize, out: &mut [u8])
+    requires { ⌜ DarkRow (now s) e (payloadAt (now s) o e) (mbBytes (sequenceOf q .form)) (headPlace (sequenceOf q) (my * picWidthInMbs (sequenceOf q))) (picWidthInMbs (sequenceOf q)) r ⌝ }
+    requires { ⌜ (Fine (sequenceOf q)) × (k < planes (sequenceOf q .form)) ⌝ }
+    requires { ⌜ (k < 3) × (my < frameHeightInMbs (sequenceOf q)) ⌝ }
+    requires { ⌜ tightLength (sequenceOf q) k ≤ length (now out) ⌝ }
+    ensures { λ _. ⌜ Steps (sequenceOf q) k (payloadAt (now (s .entry)) o e) (my * picWidthInMbs (sequenceOf q)) (my * picWidthInMbs (sequenceOf q) + picWidthInMbs (sequenceOf q)) (now (out .entry)) (now (out .exit)) ⌝ }
+{
+    let bw = ycbcr_image::block_row_bytes(q, k);
+    let bh = ycbcr_image::mb_height(q, k);
+    let vb = ycbcr_image::visible_row_bytes(q, k);
+    let vh = ycbcr_image::visible_rows(q, k);
+    let h = least(bh, vh - my * bh);
+    taking::write_zeros(out, my * bh * vb, h * vb);
+}
+
+// Takes the visible samples of such a row.
+fn take_dark(
+    s: &[u8],
+    o: usize,
+    e: usize,
+    r: usize,
+    q: Session,
+    my: usize,
+    y: &mut [u8],
+    cb: &mut [u8],
+    cr: &mut [u8],
+)
+    requires { ⌜ DarkRow (now s) e (payloadAt (now s) o e) (mbBytes (sequenceOf q .form)) (headPlace (sequenceOf q) (my * picWidthInMbs (sequenceOf q))) (picWidthInMbs (sequenceOf q)) r ⌝ }
+    requires { ⌜ (Fine (sequenceOf q)) × (my < frameHeightInMbs (sequenceOf q)) ⌝ }
+    requires { ⌜ Rooms (sequenceOf q) (now y) (now cb) (now cr) ⌝ }
+    ensures { λ _. ⌜ MbsTook (now (s .entry)) o e (sequenceOf q) (my * picWidthInMbs (sequenceOf q)) (my * picWidthInMbs (sequenceOf q) + picWidthInMbs (sequenceOf q)) (now (y .entry)) (now (y .exit)) (now (cb .entry)) (now (cb .exit)) (now (cr .entry)) (now (cr .exit)) r ⌝ }
+{
+    zero_band(s, o, e, r, q, 0, my, y);
+    if ycbcr_image::is_monochrome(q) {
+        return;
+    }
+    zero_band(s, o, e, r, q, 1, my, cb);
+    zero_band(s, o, e, r, q, 2, my, cr);
+}
+
 // Takes the visible samples of row my of macroblocks; what stands before the first begins at the payload's byte n, at the place p.
 fn take_line(
     s: &[u8],
@@ -381,6 +446,11 @@ fn take_line(
 {
     if c <= p {
         return take_calm(s, o, e, p, n, q, my, y, cb, cr);
+    }
+    let r = dark(s, o, e, c, p, n, q, my);
+    if r > 0 {
+        take_dark(s, o, e, r, q, my, y, cb, cr);
+        return r;
     }
     let row = ycbcr_image::mbs_width(q) * (2 + ycbcr_image::mb_bytes(q));
     if taking::calm(s, p, row) {
