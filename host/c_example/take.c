@@ -72,6 +72,7 @@ static void append(struct take *take, const struct picture *p, uint32_t session[
     uint32_t number = call(WIDTH, HEIGHT, 1, p->y, sizeof p->y, Y_STRIDE, 8, p->cb, sizeof p->cb, C_STRIDE, 8, p->cr, sizeof p->cr, C_STRIDE, 8,
         none, 0, session, &needed);
     check(number == 9 && needed > 0, "an output of no bytes is refused with 9 and the length needed");
+    if (number != 9) return;
 
     take->bytes = realloc(take->bytes, take->length + needed);
     if (!take->bytes) exit(2);

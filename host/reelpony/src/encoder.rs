@@ -1,5 +1,8 @@
 //! Writing with allocation: the calls of less-avc.
 
+use std::fmt;
+use std::sync::Arc;
+
 use crate::nal_unit::{InitialNalUnits, NalUnit};
 use crate::ycbcr_image::YCbCrImage;
 use crate::{next, room, start, Error, Session};
@@ -28,26 +31,39 @@ use crate::{next, room, start, Error, Session};
 /// assert_eq!(error.refusal(), Some(reelpony::Refusal::OtherThanSession));
 /// # Ok::<(), reelpony::Error>(())
 /// ```
-#[derive(Clone, Debug)]
 pub struct LessEncoder {
     session: Session,
+    /// Where the last picture was written, with room for any picture of the session. The last unit
+    /// lends from it; where that one is gone by the next call, the same memory is written again,
+    /// which saves more time than the writing takes.
+    out: Arc<Vec<u8>>,
+}
+
+/// Without the bytes of the last picture.
+impl fmt::Debug for LessEncoder {
+    fn fmt(&self, f: &mut fmt::Formatter) -> fmt::Result {
+        f.debug_struct("LessEncoder").field("session", &self.session).finish_non_exhaustive()
+    }
 }
 
 impl LessEncoder {
     /// Begins a take with its first picture. Answers the parameter sets, which say the pictures'
     /// size and kind, that picture, and the encoder of the next ones.
     pub fn new(y4m_frame: &YCbCrImage) -> Result<(InitialNalUnits, LessEncoder), Error> {
-        let mut bytes = vec![0; room(y4m_frame)];
-        let (length, session) = start(y4m_frame, &mut bytes)?;
-        bytes.truncate(length);
-        Ok((InitialNalUnits::of(bytes), LessEncoder { session }))
+        let mut out = vec![0; room(y4m_frame)];
+        let (length, session) = start(y4m_frame, &mut out)?;
+        let units = InitialNalUnits::of(&out[..length]);
+        Ok((units, LessEncoder { session, out: Arc::new(out) }))
     }
 
     /// Writes one more picture, of the first one's size and kind.
     pub fn encode(&mut self, y4m_frame: &YCbCrImage) -> Result<NalUnit, Error> {
-        let mut bytes = vec![0; room(y4m_frame)];
-        let length = next(&mut self.session, y4m_frame, &mut bytes)?;
-        bytes.truncate(length);
-        Ok(NalUnit::of(bytes))
+        if Arc::strong_count(&self.out) > 1 {
+            self.out = Arc::new(vec![0; self.out.len()]);
+        }
+        // No other holds it now, so nothing is copied.
+        let out = Arc::make_mut(&mut self.out);
+        let length = next(&mut self.session, y4m_frame, out)?;
+        Ok(NalUnit::front(&self.out, length))
     }
 }

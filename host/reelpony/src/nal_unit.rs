@@ -1,7 +1,8 @@
 //! Units: what a take's start codes stand before, and the escaping that keeps start codes out of
 //! them.
 
-use std::array;
+use std::sync::Arc;
+use std::{array, fmt};
 
 use crate::{ffi, length, Refusal};
 
@@ -9,10 +10,12 @@ use crate::{ffi, length, Refusal};
 const START_CODE: [u8; 4] = [0, 0, 0, 1];
 
 /// One unit of a take.
-#[derive(Clone, Debug, PartialEq, Eq)]
+#[derive(Clone)]
 pub struct NalUnit {
-    /// Its bytes behind a start code.
-    bytes: Vec<u8>,
+    /// At the front, its bytes behind a start code.
+    bytes: Arc<Vec<u8>>,
+    /// Their length.
+    length: usize,
 }
 
 impl NalUnit {
@@ -26,34 +29,51 @@ impl NalUnit {
         bytes.resize(begin + payload.len() + payload.len() / 2, 0);
         // An escape has at most half as many bytes again as its payload, so there is room.
         let length = escape(payload, &mut bytes[begin..]).unwrap_or(0);
-        bytes.truncate(begin + length);
-        NalUnit::of(bytes)
+        NalUnit { bytes: Arc::new(bytes), length: begin + length }
     }
 
-    /// Of bytes that begin with a start code. The room behind them is given back.
-    pub(crate) fn of(mut bytes: Vec<u8>) -> NalUnit {
-        bytes.shrink_to_fit();
-        NalUnit { bytes }
+    /// What stands at the front of a shared buffer, which begins with a start code.
+    pub(crate) fn front(bytes: &Arc<Vec<u8>>, length: usize) -> NalUnit {
+        NalUnit { bytes: Arc::clone(bytes), length }
+    }
+
+    /// Of bytes that begin with a start code, which are copied.
+    fn of(bytes: &[u8]) -> NalUnit {
+        NalUnit { length: bytes.len(), bytes: Arc::new(bytes.to_vec()) }
     }
 
     /// The unit alone: its header byte and the escaped payload.
     pub fn to_nal_unit(&self) -> Vec<u8> {
-        self.bytes.get(START_CODE.len()..).unwrap_or_default().into()
+        self.as_annex_b_data().get(START_CODE.len()..).unwrap_or_default().into()
     }
 
     /// The unit behind its start code, as it stands in a `.h264` file.
     pub fn to_annex_b_data(&self) -> Vec<u8> {
-        self.bytes.clone()
+        self.as_annex_b_data().into()
     }
 
-    /// The same bytes without copying them.
+    /// The same bytes, lent.
     pub fn as_annex_b_data(&self) -> &[u8] {
-        &self.bytes
+        self.bytes.get(..self.length).unwrap_or_default()
     }
+}
 
-    /// The same bytes, handed over.
-    pub fn into_annex_b_data(self) -> Vec<u8> {
-        self.bytes
+impl PartialEq for NalUnit {
+    fn eq(&self, other: &NalUnit) -> bool {
+        self.as_annex_b_data() == other.as_annex_b_data()
+    }
+}
+
+impl Eq for NalUnit {}
+
+/// Its header and length alone.
+impl fmt::Debug for NalUnit {
+    fn fmt(&self, f: &mut fmt::Formatter) -> fmt::Result {
+        let header = self.as_annex_b_data().get(START_CODE.len());
+        f.debug_struct("NalUnit")
+            .field("header", &header)
+            .field("length", &self.length)
+            .finish_non_exhaustive()
     }
 }
 
@@ -70,21 +90,19 @@ pub struct InitialNalUnits {
 
 impl InitialNalUnits {
     /// Of what a start call wrote: three units, each behind a start code, and none inside them.
-    pub(crate) fn of(mut bytes: Vec<u8>) -> InitialNalUnits {
-        let pps_begin = unit_end(&bytes, 0);
-        let frame_begin = unit_end(&bytes, pps_begin);
-        let mut sps: Vec<u8> = bytes.drain(..frame_begin).collect();
-        let pps = sps.split_off(pps_begin);
-        InitialNalUnits { sps: NalUnit::of(sps), pps: NalUnit::of(pps), frame: NalUnit::of(bytes) }
+    pub(crate) fn of(bytes: &[u8]) -> InitialNalUnits {
+        let (sps, bytes) = bytes.split_at(first_unit_length(bytes));
+        let (pps, frame) = bytes.split_at(first_unit_length(bytes));
+        let [sps, pps, frame] = [sps, pps, frame].map(NalUnit::of);
+        InitialNalUnits { sps, pps, frame }
     }
 }
 
-/// Where the unit whose start code stands at `begin` ends.
-fn unit_end(bytes: &[u8], begin: usize) -> usize {
-    let behind = begin + START_CODE.len();
+/// The length of the first unit with its start code: up to the next start code or the end.
+fn first_unit_length(bytes: &[u8]) -> usize {
     let is_code = |four: &[u8]| four == START_CODE;
-    let length = bytes.get(behind..).and_then(|rest| rest.windows(4).position(is_code));
-    length.map_or(bytes.len(), |length| behind + length)
+    let next = bytes.windows(4).skip(1).position(is_code);
+    next.map_or(bytes.len(), |before| before + 1)
 }
 
 /// The three units in the take's order. Calling `into_iter` reads as less-avc's own method.

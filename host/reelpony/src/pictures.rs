@@ -240,7 +240,7 @@ mod tests {
                 NalUnitType::SequenceParameterSet,
                 RbspData { data },
             );
-            let mut take = sps.into_annex_b_data();
+            let mut take = sps.to_annex_b_data();
             take.extend([0, 0, 0, 1, 0x68, 0xCE, 0x38, 0x80]);
             take.extend([0, 0, 0, 1, 0x25, 0x88, 0x84, 0x28, 0x68]);
             take.extend([0x10; 250]);

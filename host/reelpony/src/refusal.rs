@@ -3,6 +3,14 @@
 use std::fmt;
 
 /// A refusal. It left what was lent as it was: the output and the session, the planes, the buffer.
+///
+/// Each has the number that the C header lists, and a sentence:
+///
+/// ```
+/// let refusal = reelpony::Refusal::PictureShort;
+/// assert_eq!(refusal.number(), 17);
+/// assert_eq!(refusal.to_string(), "the picture is cut short");
+/// ```
 #[derive(Clone, Copy, Debug, PartialEq, Eq)]
 pub enum Refusal {
     /// 1: the width or the height is 0 or over 16,384.

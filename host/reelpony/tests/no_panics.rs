@@ -44,7 +44,7 @@ fn any_picture_gets_an_answer() {
             Ok((length, mut session)) => {
                 let (first, mut encoder) = by_encoder.expect("as the lent call");
                 let bytes: Vec<u8> =
-                    first.into_iter().flat_map(|unit| unit.into_annex_b_data()).collect();
+                    first.into_iter().flat_map(|unit| unit.to_annex_b_data()).collect();
                 assert_eq!(bytes, out[..length], "case {case}");
                 let length = next(&mut session, &image, &mut out).expect("the same picture again");
                 let unit = encoder.encode(&image).expect("the same picture again");

@@ -57,7 +57,7 @@ fn units_are_the_lent_calls_bytes() {
                 assert_eq!(first.pps.to_nal_unit(), [0x68, 0xCE, 0x38, 0x80]);
                 assert_eq!(first.frame.to_nal_unit()[..5], [0x25, 0x88, 0x84, 0x28, 0x68]);
                 let bytes: Vec<u8> =
-                    first.into_iter().flat_map(NalUnit::into_annex_b_data).collect();
+                    first.into_iter().flat_map(|unit| unit.to_annex_b_data()).collect();
                 assert_eq!(bytes, out[..length]);
 
                 let length = next(&mut session, &image, &mut out).unwrap();
@@ -67,6 +67,27 @@ fn units_are_the_lent_calls_bytes() {
                 assert_eq!(unit.to_nal_unit(), &out[4..length]);
             }
         }
+    }
+}
+
+/// Units that are kept stay as they were while more pictures are written, and an encoder that was
+/// refused goes on.
+#[test]
+fn units_that_are_kept() {
+    let contents: [fn(usize) -> u8; 4] = [|_| 0, |_| 1, |i| i as u8, |_| 0xFF];
+    let pictures = contents.map(|content| planes(20, 20, Depth8, content));
+    let images = pictures.each_ref().map(|planes| image(planes, true, Depth8, 20, 20));
+    let (first, mut encoder) = LessEncoder::new(&images[0]).unwrap();
+    let kept: Vec<NalUnit> = images.iter().map(|image| encoder.encode(image).unwrap()).collect();
+    let narrow = YCbCrImage { width: 18, ..images[1] };
+    assert!(encoder.encode(&narrow).is_err());
+    assert_eq!(kept[0], first.frame);
+    assert_ne!(kept[1], first.frame);
+    for (unit, image) in kept.iter().zip(&images) {
+        let (own, mut another) = LessEncoder::new(image).unwrap();
+        assert_eq!(unit.to_annex_b_data(), own.frame.to_annex_b_data());
+        drop(another.encode(&images[3]).unwrap());
+        assert_eq!(*unit, another.encode(image).unwrap());
     }
 }
 
