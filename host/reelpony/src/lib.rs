@@ -1,43 +1,65 @@
 //! Reelpony: each picture of a take written as one uncompressed H.264 picture (I_PCM), and read
-//! back.
+//! back, from cut and damaged takes too.
 //!
-//! A thin, safe layer over the proved library `libreelpony.a`: types for its numbers, and nothing
-//! else. [`start`] writes the parameter sets and the first picture of a take, [`next`] one more;
-//! a take is their bytes, one behind the other. A [`Reader`] goes through a take unit by unit.
+//! A safe layer over the proved library `libreelpony.a`. Nothing here panics, whatever it is given:
+//! what can't be done is a [`Refusal`], which has a number and a sentence.
+//!
+//! | | with memory that is lent | with memory of its own |
+//! |---|---|---|
+//! | writing | [`start`], [`next`] | [`LessEncoder`], as in less-avc |
+//! | reading | [`Reader`] | [`Pictures`] |
+//! | reading what is damaged | [`Reader`] | [`Salvage`] |
+//!
+//! A take is what a start call wrote, then what each next call wrote, one behind the other in a
+//! file. The pictures that are written are lent as less-avc's types, see [`ycbcr_image`].
 //!
 //! ```
 //! use reelpony::ycbcr_image::{DataPlane, Planes, YCbCrImage};
-//! use reelpony::{next, start, BitDepth};
+//! use reelpony::{BitDepth, LessEncoder, Salvage};
 //!
-//! let samples = [0x10; 256];
-//! let image = YCbCrImage {
-//!     planes: Planes::Mono(DataPlane {
-//!         data: &samples,
-//!         stride: 16,
-//!         bit_depth: BitDepth::Depth8,
-//!     }),
-//!     width: 16,
-//!     height: 16,
-//! };
-//! let mut out = [0; 300];
-//! let (length, mut session) = start(&image, &mut out)?;
-//! assert_eq!(length, 286);
-//! let refusal = next(&mut session, &image, &mut []).unwrap_err();
-//! let mut more = vec![0; refusal.needed().unwrap()];
-//! assert_eq!(next(&mut session, &image, &mut more)?, more.len());
+//! let samples = vec![0x10; 640 * 480];
+//! let y = DataPlane { data: &samples, stride: 640, bit_depth: BitDepth::Depth8 };
+//! let image = YCbCrImage { planes: Planes::Mono(y), width: 640, height: 480 };
+//! let (first, mut encoder) = LessEncoder::new(&image)?; // parameter sets and first picture
+//! let mut take: Vec<u8> = first.into_iter().flat_map(|unit| unit.to_annex_b_data()).collect();
+//! take.extend(encoder.encode(&image)?.to_annex_b_data()); // one more picture
+//! for found in Salvage::new(&take) {
+//!     match found {
+//!         Ok(picture) => assert_eq!(picture.y, samples),
+//!         Err(lost) => eprintln!("{lost}"),
+//!     }
+//! }
+//! # assert_eq!(Salvage::new(&take).filter(Result::is_ok).count(), 2);
+//! # Ok::<(), reelpony::Error>(())
+//! ```
+//!
+//! The same without allocation, in buffers that the caller lends:
+//!
+//! ```
+//! # use reelpony::ycbcr_image::{DataPlane, Planes, YCbCrImage};
+//! # use reelpony::BitDepth;
+//! # let samples = [0x10; 256];
+//! # let y = DataPlane { data: &samples, stride: 16, bit_depth: BitDepth::Depth8 };
+//! # let image = YCbCrImage { planes: Planes::Mono(y), width: 16, height: 16 };
+//! use reelpony::{next, room, start};
+//!
+//! let mut out = [0; 1000];
+//! assert!(room(&image) < out.len()); // enough, whatever the samples are
+//! let (first, mut session) = start(&image, &mut out)?;
+//! let second = next(&mut session, &image, &mut out[first..])?;
+//! let take = &out[..first + second];
 //!
 //! use reelpony::reader::{Answer, PlanesMut, Reader};
 //!
-//! let take = &out[..length];
+//! let mut y = [0; 256];
 //! let mut reader = Reader::new();
-//! let Answer::Sps { sps, .. } = reader.read(take, PlanesMut::none()) else { panic!() };
-//! let [mut y, mut cb, mut cr] = sps.plane_lengths().map(|length| vec![0; length]);
 //! loop {
-//!     let planes = PlanesMut { y: &mut y, cb: &mut cb, cr: &mut cr };
-//!     match reader.read(take, planes) {
-//!         Answer::Picture { .. } => assert_eq!(y, samples),
+//!     match reader.read(take, PlanesMut { y: &mut y, cb: &mut [], cr: &mut [] }) {
 //!         Answer::End => break,
-//!         _ => {}
+//!         Answer::Picture { .. } => assert_eq!(y, samples),
+//!         Answer::Sps { sps, .. } => assert_eq!(sps.plane_lengths(), [256, 0, 0]),
+//!         Answer::Pps { .. } => {}
+//!         Answer::Refused { refusal, offset } => eprintln!("at {offset}: {refusal}"),
 //!     }
 //! }
 //! # Ok::<(), reelpony::Refusal>(())
@@ -45,17 +67,24 @@
 
 #![deny(unsafe_code, missing_docs)]
 
+mod encoder;
+mod error;
 #[allow(unsafe_code)]
 pub mod ffi;
 pub mod golomb;
 pub mod nal_unit;
+mod pictures;
 pub mod reader;
 mod refusal;
 pub mod ycbcr_image;
 
+pub use encoder::LessEncoder;
+pub use error::Error;
+pub use nal_unit::RbspData;
+pub use pictures::{Lost, Picture, Pictures, Salvage};
 pub use reader::Reader;
 pub use refusal::Refusal;
-use ycbcr_image::YCbCrImage;
+use ycbcr_image::{Planes, YCbCrImage};
 
 /// Bits a sample.
 #[derive(Clone, Copy, Debug, PartialEq, Eq)]
@@ -92,6 +121,31 @@ pub fn start(image: &YCbCrImage, out: &mut [u8]) -> Result<(usize, Session), Ref
 /// written.
 pub fn next(session: &mut Session, image: &YCbCrImage, out: &mut [u8]) -> Result<usize, Refusal> {
     length(ffi::next(&image.numbers(), out, &mut session.0))
+}
+
+/// A length of the output with which neither call is refused for want of room, whatever the samples
+/// are. With this much nothing has to be counted first, which makes writing faster.
+///
+/// 0 for a picture that is refused anyhow, since its planes have fewer bytes than it takes.
+pub fn room(image: &YCbCrImage) -> usize {
+    let [across, down] =
+        [image.width, image.height].map(|side| side.min(16_384).div_ceil(16) as usize);
+    let (lent, samples, depth) = match image.planes {
+        Planes::Mono(y) => (y.data.len(), 256, y.bit_depth),
+        Planes::YCbCr((y, cb, cr)) => {
+            let lent = [y, cb, cr].map(|plane| plane.data.len());
+            (lent.into_iter().fold(0, usize::saturating_add), 384, y.bit_depth)
+        }
+    };
+    let macroblocks = across * down;
+    let bytes = macroblocks * samples * usize::from(depth.num_bits()) / 8;
+    if lent < bytes {
+        return 0;
+    }
+    // A header of four bytes, two before every macroblock but the first, and the last byte;
+    // escaping adds half as much at most. 69 are the parameter sets and the start code, at most.
+    let payload = 4 + bytes + 2 * macroblocks.saturating_sub(1) + 1;
+    payload + payload / 2 + 69
 }
 
 /// The length of an accepted call, which is at most that of its output.

@@ -1,4 +1,6 @@
-//! Reading a take back: parameter sets and pictures, one a call, cut and damaged takes too.
+//! Reading a take back into lent planes: parameter sets and pictures, one a call, cut and damaged
+//! takes too. [`Pictures`](crate::Pictures) and [`Salvage`](crate::Salvage) do the same with planes
+//! of their own.
 
 use crate::{ffi, BitDepth, Refusal};
 

@@ -3,6 +3,14 @@
 use std::fmt;
 
 /// A refusal. It left what was lent as it was: the output and the session, the planes, the buffer.
+///
+/// Each has the number that the C header lists, and a sentence:
+///
+/// ```
+/// let refusal = reelpony::Refusal::PictureShort;
+/// assert_eq!(refusal.number(), 17);
+/// assert_eq!(refusal.to_string(), "the picture is cut short");
+/// ```
 #[derive(Clone, Copy, Debug, PartialEq, Eq)]
 pub enum Refusal {
     /// 1: the width or the height is 0 or over 16,384.
@@ -145,12 +153,14 @@ impl fmt::Display for Refusal {
             Refusal::Output { needed } => {
                 return write!(f, "the output is too short: {needed} bytes are needed")
             }
-            Refusal::Stray => "there are bytes before the next start code that are no unit",
+            Refusal::Stray => "the bytes belong to no unit, since no start code stands before them",
             Refusal::Empty => "there is nothing behind the start code",
-            Refusal::Escaping => "the bytes are not escaped as a unit's are",
+            Refusal::Escaping => "two zeros are followed by what escaping never leaves there",
             Refusal::Header => "the unit is neither a parameter set nor a picture",
             Refusal::ParameterSet => "the parameter set is not one that the writer writes",
-            Refusal::OtherThanHeld => "the sequence parameter set is not the one held",
+            Refusal::OtherThanHeld => {
+                "the sequence parameter set is not the one that the take began with"
+            }
             Refusal::NothingHeld => "a picture came before both parameter sets",
             Refusal::PictureShort => "the picture is cut short",
             Refusal::PictureForm => "the picture is too long or not of the writer's form",
@@ -171,7 +181,26 @@ impl std::error::Error for Refusal {}
 
 #[cfg(test)]
 mod tests {
+    use std::collections::BTreeSet;
+
     use super::*;
+
+    /// The numbers that the header lists, a line each, are those that have a name, and each has a
+    /// sentence of its own.
+    #[test]
+    fn numbers_are_the_headers() {
+        let number = |line: &str| {
+            let (number, text) = line.strip_prefix(" *")?.trim_start().split_once("   ")?;
+            number.parse().ok().filter(|_| !text.trim().is_empty())
+        };
+        let header = include_str!("../../../include/reelpony.h");
+        let listed: BTreeSet<u32> = header.lines().filter_map(number).collect();
+        assert_eq!(listed, (1..=22).chain([99]).collect());
+        let named = |number: &u32| !matches!(Refusal::of(*number, 0), Refusal::Unknown(_));
+        assert_eq!(listed, (1..1000).filter(named).collect());
+        let sentences = listed.iter().map(|&number| Refusal::of(number, 0).to_string());
+        assert_eq!(sentences.collect::<BTreeSet<_>>().len(), listed.len());
+    }
 
     /// Every number of the header comes back from the refusal that it makes, 9 with its length.
     #[test]
