@@ -1,0 +1,97 @@
+//! The command `reelpony`: takes from Y4M and back, cut and damaged ones too.
+
+#![forbid(unsafe_code)]
+
+mod error;
+mod files;
+mod progress;
+mod record;
+mod salvage;
+mod window;
+mod y4m;
+
+use std::env;
+use std::ffi::OsString;
+use std::path::Path;
+use std::process::ExitCode;
+
+use error::{status, Error, Outcome, Result};
+use files::Text;
+
+const HELP: &str = "\
+Keeps pictures as H.264 takes, uncompressed, and gets them back.
+
+  reelpony record IN.y4m OUT.h264         writes a take from a Y4M (mono, mono12, 420, 420p12)
+  reelpony list TAKE                      shows each unit: offset, length, what it is
+  reelpony check TAKE                     says whether a take is whole, cut or damaged
+  reelpony extract TAKE OUT.y4m           saves every picture that can be saved
+           [--rate 25:1]                  the Y4M's pictures a second, which a take doesn't hold
+  reelpony demo [DIR]                     writes a small shoot, damages it and saves it
+  reelpony help                           shows this
+
+A file named - is standard input or output. A result that is there already is replaced, once the new one
+is whole.
+
+Status: 0 all is well; 3 a part: the take is cut or damaged, and what can be saved was; 1 failed, or there
+is no picture; 2 wrong usage. list gives 0 for every file that it can read.
+
+A take has no checksums: a sample that was changed to another can't be seen, and nor can a cut between two
+pictures.";
+
+fn main() -> ExitCode {
+    let arguments: Vec<OsString> = env::args_os().skip(1).collect();
+    let outcome = run(&arguments);
+    match &outcome {
+        Err(Error::Sentence(text)) => progress::say(text),
+        Err(Error::Usage(text)) => progress::say(format!("{text}; see: reelpony help")),
+        Err(Error::BrokenPipe) | Ok(_) => {}
+    }
+    status(&outcome)
+}
+
+fn run(arguments: &[OsString]) -> Result<Outcome> {
+    let Some((command, rest)) = arguments.split_first() else {
+        return Err(Error::Usage("a command is needed".into()));
+    };
+    let command = command.to_string_lossy();
+    let mut files: Vec<&Path> = Vec::new();
+    let mut rate = "25:1".to_string();
+    let mut rest = rest.iter();
+    while let Some(argument) = rest.next() {
+        match argument.to_str() {
+            Some("--rate") if command == "extract" => {
+                let value = rest.next().and_then(|value| value.to_str()).filter(|v| is_rate(v));
+                let wrong = "--rate needs two whole numbers like 30000:1001";
+                rate = value.ok_or_else(|| Error::Usage(wrong.into()))?.into();
+            }
+            Some(option) if option.starts_with('-') && option != "-" => {
+                return Err(Error::Usage(format!("{command} has no option {option}")));
+            }
+            _ => files.push(Path::new(argument)),
+        }
+    }
+    match (&*command, &files[..]) {
+        ("record", [from, to]) => record::run(from, to),
+        ("list", [take]) => salvage::list(take),
+        ("check", [take]) => salvage::check(take),
+        ("extract", [from, to]) => salvage::extract(from, to, &rate),
+        ("help" | "--help" | "-h", []) => {
+            let mut text = Text::new()?;
+            text.line(HELP)?;
+            text.finish()?;
+            Ok(Outcome::Complete)
+        }
+        ("record" | "extract", _) => {
+            Err(Error::Usage(format!("{command} needs two files, from and to")))
+        }
+        ("list" | "check", _) => Err(Error::Usage(format!("{command} needs one take"))),
+        ("help" | "--help" | "-h", _) => Err(Error::Usage("help stands alone".into())),
+        _ => Err(Error::Usage(format!("there is no command {command:?}"))),
+    }
+}
+
+/// Two numbers from 1 on, with a colon between.
+fn is_rate(text: &str) -> bool {
+    let number = |text: &str| text.parse::<u32>().is_ok_and(|number| number > 0);
+    text.split_once(':').is_some_and(|(pictures, seconds)| number(pictures) && number(seconds))
+}

@@ -1,0 +1,195 @@
+//! `list`, `check` and `extract`: what a take holds, good or bad.
+
+use std::path::Path;
+
+use reelpony::reader::Sps;
+use reelpony::Refusal;
+
+use crate::error::{Error, Outcome, Result};
+use crate::files::{Input, Output, Text};
+use crate::progress::{counted, Progress};
+use crate::window::{Found, What, Window};
+use crate::y4m;
+
+/// Refusals that are told one by one; `list` tells all.
+const TOLD: u64 = 200;
+
+/// What was met in a take.
+#[derive(Default)]
+pub struct Tally {
+    pub units: u64,
+    pub pictures: u64,
+    pub refused: u64,
+    shape: Option<Sps>,
+    /// The first thing that was refused, and why.
+    first: Option<(Found, Refusal)>,
+    /// Whether what was met last was refused.
+    ends_refused: bool,
+}
+
+impl Tally {
+    fn add(&mut self, found: &Found) {
+        self.ends_refused = false;
+        match found.what {
+            What::Sps(sps) => self.shape = Some(sps),
+            What::Pps => {}
+            What::Picture => self.pictures += 1,
+            What::Refused(refusal) => {
+                self.refused += 1;
+                self.ends_refused = true;
+                self.first.get_or_insert((found.clone(), refusal));
+            }
+        }
+        self.units += u64::from(found.what != What::Refused(Refusal::Stray));
+    }
+
+    /// `3 pictures of 640x480, colour, 8 bits`.
+    fn pictures(&self) -> String {
+        let pictures = counted(self.pictures, "picture");
+        match self.shape {
+            Some(shape) => format!("{pictures} of {}", y4m::words(&shape)),
+            None => pictures,
+        }
+    }
+
+    /// Whether it is what a cut leaves: one refusal, at the end, of a unit that isn't whole.
+    fn is_cut(&self) -> bool {
+        use Refusal::{Empty, ParameterSet, PictureShort};
+        let cut = matches!(self.first, Some((_, Empty | ParameterSet | PictureShort)));
+        cut && self.refused == 1 && self.ends_refused
+    }
+
+    /// Why there is no picture, in words that follow the file's name.
+    fn nothing(&self, bytes: u64) -> String {
+        match &self.first {
+            _ if bytes == 0 => "is empty".into(),
+            Some((found, refusal)) => format!(
+                "has no picture that can be saved; {} refused, first at offset {}: {refusal}",
+                counted(self.refused, "place"),
+                found.offset
+            ),
+            None if self.units > 0 => "has parameter sets, but no picture".into(),
+            None => "has no picture, only zeros".into(),
+        }
+    }
+}
+
+/// A refused part in words.
+fn refused(refusal: Refusal) -> String {
+    format!("refused ({}): {refusal}", refusal.number())
+}
+
+pub fn list(path: &Path) -> Result<Outcome> {
+    let input = Input::open(path)?;
+    let mut progress = Progress::new(input.length);
+    let mut window = Window::new(input.file);
+    let mut text = Text::new()?;
+    let mut tally = Tally::default();
+    text.line(format!("{:>14} {:>12}  what", "offset", "length"))?;
+    while let Some(found) = window.next().map_err(|error| Error::reading(&input.name, error))? {
+        tally.add(&found);
+        let what = match found.what {
+            What::Sps(sps) => format!("sequence parameter set: {}", y4m::words(&sps)),
+            What::Pps => "picture parameter set".into(),
+            What::Picture => format!("picture {}", tally.pictures),
+            What::Refused(refusal) => refused(refusal),
+        };
+        text.line(format!("{:>14} {:>12}  {what}", found.offset, found.length))?;
+        progress.show(window.offset(), tally.pictures);
+    }
+    text.line(format!(
+        "{} and {} refused in {} bytes: {}",
+        counted(tally.units, "unit"),
+        tally.refused,
+        window.offset(),
+        tally.pictures()
+    ))?;
+    text.finish()?;
+    Ok(Outcome::Complete)
+}
+
+pub fn check(path: &Path) -> Result<Outcome> {
+    let input = Input::open(path)?;
+    let mut progress = Progress::new(input.length);
+    let mut window = Window::new(input.file);
+    let mut tally = Tally::default();
+    while let Some(found) = window.next().map_err(|error| Error::reading(&input.name, error))? {
+        tally.add(&found);
+        progress.show(window.offset(), tally.pictures);
+    }
+    drop(progress);
+    let name = &input.name;
+    let pictures = tally.pictures();
+    let (outcome, verdict) = match &tally.first {
+        _ if tally.pictures == 0 => {
+            (Outcome::Nothing, format!("nothing: {name} {}", tally.nothing(window.offset())))
+        }
+        None => (Outcome::Complete, format!("whole: {name} has {pictures}")),
+        Some((found, refusal)) if tally.is_cut() => (
+            Outcome::Partial,
+            format!("cut: {name} has {pictures}; then, at offset {}, {refusal}", found.offset),
+        ),
+        Some((found, refusal)) => (
+            Outcome::Partial,
+            format!(
+                "damaged: {name} has {pictures} that can be saved; {} refused, first at offset \
+                 {}: {refusal}",
+                counted(tally.refused, "place"),
+                found.offset
+            ),
+        ),
+    };
+    let mut text = Text::new()?;
+    text.line(verdict)?;
+    text.finish()?;
+    Ok(outcome)
+}
+
+/// The command: saves what can be saved, and says what was lost.
+pub fn extract(from: &Path, to: &Path, rate: &str) -> Result<Outcome> {
+    let input = Input::open(from)?;
+    let mut output = Output::create(to, Some(from))?;
+    let mut progress = Progress::new(input.length);
+    let mut window = Window::with_samples(input.file);
+    let mut tally = Tally::default();
+    while let Some(found) = window.next().map_err(|error| Error::reading(&input.name, error))? {
+        tally.add(&found);
+        match (found.what, window.sps()) {
+            (What::Picture, Some(sps)) => {
+                if tally.pictures == 1 {
+                    output.write(y4m::header(&sps, rate).as_bytes())?;
+                }
+                y4m::write(&mut output, sps.bit_depth, window.planes())?;
+            }
+            (What::Refused(refusal), _) if tally.refused <= TOLD => {
+                let place = match tally.pictures {
+                    0 => "before the first picture".into(),
+                    number => format!("behind picture {number}"),
+                };
+                progress.say(format!(
+                    "lost: {} at offset {}, {place}: {refusal}",
+                    counted(found.length, "byte"),
+                    found.offset
+                ));
+            }
+            _ => {}
+        }
+        progress.show(window.offset(), tally.pictures);
+    }
+    if tally.refused > TOLD {
+        progress.say(format!("lost: {} more places, which list shows", tally.refused - TOLD));
+    }
+    if tally.pictures == 0 {
+        return Error::sentence(format!("{} {}", input.name, tally.nothing(window.offset())));
+    }
+    let name = output.name.clone();
+    output.finish()?;
+    let pictures = tally.pictures();
+    if tally.refused > 0 {
+        let places = counted(tally.refused, "place");
+        progress.say(format!("partial: {name} has {pictures}; {places} of the take lost"));
+        return Ok(Outcome::Partial);
+    }
+    progress.say(format!("complete: {name} has {pictures}"));
+    Ok(Outcome::Complete)
+}
