@@ -30,7 +30,7 @@ impl fmt::Display for Name {
 }
 
 impl Name {
-    fn of(path: &Path, standard: &str) -> Name {
+    pub fn of(path: &Path, standard: &str) -> Name {
         match is_standard(path) {
             true => Name(standard.into()),
             false => Name(path.display().to_string()),

@@ -2,11 +2,15 @@
 
 #![forbid(unsafe_code)]
 
+mod demo;
 mod error;
 mod files;
+mod png;
 mod progress;
 mod record;
 mod salvage;
+mod scene;
+mod sheet;
 mod window;
 mod y4m;
 
@@ -55,7 +59,7 @@ fn run(arguments: &[OsString]) -> Result<Outcome> {
     };
     let command = command.to_string_lossy();
     let mut files: Vec<&Path> = Vec::new();
-    let mut rate = "25:1".to_string();
+    let mut rate = salvage::RATE.to_string();
     let mut rest = rest.iter();
     while let Some(argument) = rest.next() {
         match argument.to_str() {
@@ -75,6 +79,8 @@ fn run(arguments: &[OsString]) -> Result<Outcome> {
         ("list", [take]) => salvage::list(take),
         ("check", [take]) => salvage::check(take),
         ("extract", [from, to]) => salvage::extract(from, to, &rate),
+        ("demo", []) => demo::run(Path::new("reelpony-demo")),
+        ("demo", [folder]) => demo::run(folder),
         ("help" | "--help" | "-h", []) => {
             let mut text = Text::new()?;
             text.line(HELP)?;
@@ -85,6 +91,7 @@ fn run(arguments: &[OsString]) -> Result<Outcome> {
             Err(Error::Usage(format!("{command} needs two files, from and to")))
         }
         ("list" | "check", _) => Err(Error::Usage(format!("{command} needs one take"))),
+        ("demo", _) => Err(Error::Usage("demo needs one folder at most".into())),
         ("help" | "--help" | "-h", _) => Err(Error::Usage("help stands alone".into())),
         _ => Err(Error::Usage(format!("there is no command {command:?}"))),
     }

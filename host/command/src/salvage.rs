@@ -1,15 +1,19 @@
 //! `list`, `check` and `extract`: what a take holds, good or bad.
 
+use std::io::Read;
 use std::path::Path;
 
 use reelpony::reader::Sps;
 use reelpony::Refusal;
 
 use crate::error::{Error, Outcome, Result};
-use crate::files::{Input, Output, Text};
+use crate::files::{Input, Name, Output, Text};
 use crate::progress::{counted, Progress};
 use crate::window::{Found, What, Window};
 use crate::y4m;
+
+/// Pictures a second that a Y4M gets, since a take doesn't hold them.
+pub const RATE: &str = "25:1";
 
 /// Refusals that are told one by one; `list` tells all.
 const TOLD: u64 = 200;
@@ -151,33 +155,23 @@ pub fn extract(from: &Path, to: &Path, rate: &str) -> Result<Outcome> {
     let mut output = Output::create(to, Some(from))?;
     let mut progress = Progress::new(input.length);
     let mut window = Window::with_samples(input.file);
-    let mut tally = Tally::default();
-    while let Some(found) = window.next().map_err(|error| Error::reading(&input.name, error))? {
-        tally.add(&found);
-        match (found.what, window.sps()) {
-            (What::Picture, Some(sps)) => {
-                if tally.pictures == 1 {
-                    output.write(y4m::header(&sps, rate).as_bytes())?;
-                }
-                y4m::write(&mut output, sps.bit_depth, window.planes())?;
-            }
-            (What::Refused(refusal), _) if tally.refused <= TOLD => {
+    let tally = save(&mut window, &input.name, &mut output, rate, &mut |found, tally, offset| {
+        if let What::Refused(refusal) = found.what {
+            if tally.refused <= TOLD {
                 let place = match tally.pictures {
                     0 => "before the first picture".into(),
                     number => format!("behind picture {number}"),
                 };
-                progress.say(format!(
-                    "lost: {} at offset {}, {place}: {refusal}",
-                    counted(found.length, "byte"),
-                    found.offset
-                ));
+                let bytes = counted(found.length, "byte");
+                let offset = found.offset;
+                progress.say(format!("lost: {bytes} at offset {offset}, {place}: {refusal}"));
             }
-            _ => {}
         }
-        progress.show(window.offset(), tally.pictures);
-    }
+        progress.show(offset, tally.pictures);
+    })?;
     if tally.refused > TOLD {
-        progress.say(format!("lost: {} more places, which list shows", tally.refused - TOLD));
+        let more = counted(tally.refused - TOLD, "more place");
+        progress.say(format!("lost: {more}; reelpony list shows all"));
     }
     if tally.pictures == 0 {
         return Error::sentence(format!("{} {}", input.name, tally.nothing(window.offset())));
@@ -192,4 +186,27 @@ pub fn extract(from: &Path, to: &Path, rate: &str) -> Result<Outcome> {
     }
     progress.say(format!("complete: {name} has {pictures}"));
     Ok(Outcome::Complete)
+}
+
+/// Writes every picture that can be saved as a Y4M. What is found is told, with what was met up to
+/// there and the offset behind it.
+pub fn save<R: Read>(
+    window: &mut Window<R>,
+    name: &Name,
+    output: &mut Output,
+    rate: &str,
+    told: &mut dyn FnMut(&Found, &Tally, u64),
+) -> Result<Tally> {
+    let mut tally = Tally::default();
+    while let Some(found) = window.next().map_err(|error| Error::reading(name, error))? {
+        tally.add(&found);
+        if let (What::Picture, Some(sps)) = (found.what, window.sps()) {
+            if tally.pictures == 1 {
+                output.write(y4m::header(&sps, rate).as_bytes())?;
+            }
+            y4m::write(output, sps.bit_depth, window.planes())?;
+        }
+        told(&found, &tally, window.offset());
+    }
+    Ok(tally)
 }

@@ -318,3 +318,70 @@ pub fn write(output: &mut Output, depth: BitDepth, planes: &[Vec<u8>; 3]) -> Res
     }
     Ok(())
 }
+
+#[cfg(test)]
+mod tests {
+    use super::*;
+
+    fn shape(width: u32, height: u32, colour: bool, bit_depth: BitDepth) -> Sps {
+        Sps { width, height, colour, bit_depth }
+    }
+
+    #[test]
+    fn headers() {
+        for (line, wanted) in [
+            ("YUV4MPEG2 W18 H10", shape(18, 10, true, Depth8)),
+            (
+                "YUV4MPEG2 W18 H10 F25:1 Ip A1:1 Cmono XCOLORRANGE=FULL",
+                shape(18, 10, false, Depth8),
+            ),
+            ("YUV4MPEG2 C420p12 H9 W7 XYSCSS=420P12", shape(7, 9, true, Depth12)),
+            ("YUV4MPEG2 W1 H1 Cmono12 I?", shape(1, 1, false, Depth12)),
+        ] {
+            let header = Header::parse(line.as_bytes());
+            assert_eq!(header, Ok(Header { shape: wanted, unkept: vec![] }), "{line}");
+        }
+        for shape in [shape(18, 10, true, Depth8), shape(4, 2, true, Depth12)] {
+            let line = header(&shape, "25:1");
+            let header = Header::parse(line.trim_end().as_bytes());
+            assert_eq!(header, Ok(Header { shape, unkept: vec![] }));
+        }
+        let header = Header::parse(b"YUV4MPEG2 W2 H2 It XCOLORRANGE=LIMITED").unwrap();
+        assert_eq!(header.unkept.len(), 2);
+        for line in ["", "YUV4MPEG", "YUV4MPEG2", "YUV4MPEG2 W2", "YUV4MPEG2 Wx H2", "\u{fffd}"] {
+            assert!(Header::parse(line.as_bytes()).is_err(), "{line}");
+        }
+    }
+
+    /// All pairs of a low and a high sample come back, and the last one is repeated.
+    #[test]
+    fn twelve_bits() {
+        let mut line = [0; 6];
+        let mut back = [0; 8];
+        for first in 0..4096u16 {
+            let second = 4095 - first;
+            let row = [first.to_le_bytes(), second.to_le_bytes()].concat();
+            assert_eq!(pack(&row, &mut line), Ok(()));
+            assert_eq!(u16::from(line[0]) << 4 | u16::from(line[1]) >> 4, first);
+            unpack(&line, &mut back);
+            assert_eq!(back[..4], row);
+            assert_eq!(back[4..], [&row[2..], &row[2..]].concat());
+        }
+        assert_eq!(pack(&[0, 0, 0, 0x10], &mut line), Err((1, 4096)));
+    }
+
+    /// The padding repeats the last sample of a row and the last row.
+    #[test]
+    fn padding() {
+        let y4m = b"YUV4MPEG2 W3 H2 Cmono\nFRAME\nabcdef";
+        let name = Name::of(std::path::Path::new("x.y4m"), "");
+        let mut source = Source::open(&y4m[..], &name).unwrap();
+        assert!(source.next().unwrap().is_some());
+        let rows: Vec<&[u8]> = source.planes[0].data.chunks(16).collect();
+        assert_eq!(rows.len(), 16);
+        assert_eq!(rows[0], b"abcccccccccccccc");
+        assert!(rows[1..].iter().all(|row| row == b"deffffffffffffff"));
+        assert!(source.next().unwrap().is_none());
+        assert_eq!(source.bytes, y4m.len() as u64);
+    }
+}
