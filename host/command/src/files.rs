@@ -54,7 +54,7 @@ impl Input {
         if about.is_dir() {
             return Error::sentence(format!("{name} is a folder, not a file"));
         }
-        let length = about.is_file().then(|| about.len());
+        let length = about.is_file().then_some(about.len());
         Ok(Input { file, name, length })
     }
 }
@@ -64,8 +64,8 @@ impl Input {
 pub struct Output {
     file: File,
     pub name: Name,
-    /// The name that it has now and the one that it gets. None: it is written as it stands, since it
-    /// is standard output, a device or a pipe.
+    /// The name that it has now and the one that it gets. None: it is written as it stands, since
+    /// it is standard output, a device or a pipe.
     names: Option<(PathBuf, PathBuf)>,
 }
 
@@ -110,10 +110,10 @@ impl Output {
         self.file.write_all(bytes).map_err(|error| Error::writing(&self.name, error))
     }
 
-    /// Gives the file its final name.
+    /// Gives the file its final name, once its bytes are on the disk.
     pub fn finish(mut self) -> Result<()> {
         let Some((unfinished, last)) = self.names.clone() else { return Ok(()) };
-        let renamed = fs::rename(&unfinished, last);
+        let renamed = self.file.sync_all().and_then(|()| fs::rename(&unfinished, last));
         renamed.map_err(|error| Error::writing(&self.name, error))?;
         self.names = None;
         Ok(())

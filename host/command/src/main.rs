@@ -30,17 +30,19 @@ Keeps pictures as H.264 takes, uncompressed, and gets them back.
   reelpony check TAKE                     says whether a take is whole, cut or damaged
   reelpony extract TAKE OUT.y4m           saves every picture that can be saved
            [--rate 25:1]                  the Y4M's pictures a second, which a take doesn't hold
+           [--like GOOD_TAKE]             where the first bytes are lost, list and check too: goes
+                                          by the parameter sets of a take of that size and kind
   reelpony demo [DIR]                     writes a small shoot, damages it and saves it
   reelpony help                           shows this
 
-A file named - is standard input or output. A result that is there already is replaced, once the new one
-is whole.
+A file named - is standard input or output. A result that is there already is replaced, once the
+new one is whole; until then it is called NAME.NUMBER.part.
 
-Status: 0 all is well; 3 a part: the take is cut or damaged, and what can be saved was; 1 failed, or there
-is no picture; 2 wrong usage. list gives 0 for every file that it can read.
+Status: 0 all is well; 3 a part: the take is cut or damaged, and what can be saved was; 1 failed,
+or there is no picture; 2 wrong usage. list gives 0 for every file that it can read.
 
-A take has no checksums: a sample that was changed to another can't be seen, and nor can a cut between two
-pictures.";
+A take has no checksums: a sample that was changed to another can't be seen, and nor can a cut
+between two pictures.";
 
 fn main() -> ExitCode {
     let arguments: Vec<OsString> = env::args_os().skip(1).collect();
@@ -59,14 +61,19 @@ fn run(arguments: &[OsString]) -> Result<Outcome> {
     };
     let command = command.to_string_lossy();
     let mut files: Vec<&Path> = Vec::new();
-    let mut rate = salvage::RATE.to_string();
+    let mut rate = salvage::RATE;
+    let mut like = None;
     let mut rest = rest.iter();
     while let Some(argument) = rest.next() {
         match argument.to_str() {
             Some("--rate") if command == "extract" => {
                 let value = rest.next().and_then(|value| value.to_str()).filter(|v| is_rate(v));
                 let wrong = "--rate needs two whole numbers like 30000:1001";
-                rate = value.ok_or_else(|| Error::Usage(wrong.into()))?.into();
+                rate = value.ok_or_else(|| Error::Usage(wrong.into()))?;
+            }
+            Some("--like") if matches!(&*command, "list" | "check" | "extract") => {
+                let value = rest.next().map(Path::new);
+                like = Some(value.ok_or_else(|| Error::Usage("--like needs a take".into()))?);
             }
             Some(option) if option.starts_with('-') && option != "-" => {
                 return Err(Error::Usage(format!("{command} has no option {option}")));
@@ -76,9 +83,9 @@ fn run(arguments: &[OsString]) -> Result<Outcome> {
     }
     match (&*command, &files[..]) {
         ("record", [from, to]) => record::run(from, to),
-        ("list", [take]) => salvage::list(take),
-        ("check", [take]) => salvage::check(take),
-        ("extract", [from, to]) => salvage::extract(from, to, &rate),
+        ("list", [take]) => salvage::list(take, like),
+        ("check", [take]) => salvage::check(take, like),
+        ("extract", [from, to]) => salvage::extract(from, to, rate, like),
         ("demo", []) => demo::run(Path::new("reelpony-demo")),
         ("demo", [folder]) => demo::run(folder),
         ("help" | "--help" | "-h", []) => {

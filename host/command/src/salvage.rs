@@ -1,6 +1,7 @@
 //! `list`, `check` and `extract`: what a take holds, good or bad.
 
-use std::io::Read;
+use std::fs::File;
+use std::io::{self, IsTerminal, Read};
 use std::path::Path;
 
 use reelpony::reader::Sps;
@@ -21,9 +22,12 @@ const TOLD: u64 = 200;
 /// What was met in a take.
 #[derive(Default)]
 pub struct Tally {
+    /// Parameter sets and pictures.
     pub units: u64,
     pub pictures: u64,
     pub refused: u64,
+    /// Pictures without parameter sets.
+    nothing_held: u64,
     shape: Option<Sps>,
     /// The first thing that was refused, and why.
     first: Option<(Found, Refusal)>,
@@ -33,18 +37,18 @@ pub struct Tally {
 
 impl Tally {
     fn add(&mut self, found: &Found) {
-        self.ends_refused = false;
+        self.ends_refused = matches!(found.what, What::Refused(_));
+        self.units += u64::from(!self.ends_refused);
         match found.what {
             What::Sps(sps) => self.shape = Some(sps),
             What::Pps => {}
             What::Picture => self.pictures += 1,
             What::Refused(refusal) => {
                 self.refused += 1;
-                self.ends_refused = true;
+                self.nothing_held += u64::from(refusal == Refusal::NothingHeld);
                 self.first.get_or_insert((found.clone(), refusal));
             }
         }
-        self.units += u64::from(found.what != What::Refused(Refusal::Stray));
     }
 
     /// `3 pictures of 640x480, colour, 8 bits`.
@@ -67,6 +71,10 @@ impl Tally {
     fn nothing(&self, bytes: u64) -> String {
         match &self.first {
             _ if bytes == 0 => "is empty".into(),
+            _ if self.nothing_held > 0 => format!(
+                "has {}, but not both parameter sets; --like GOOD_TAKE takes them from there",
+                counted(self.nothing_held, "picture")
+            ),
             Some((found, refusal)) => format!(
                 "has no picture that can be saved; {} refused, first at offset {}: {refusal}",
                 counted(self.refused, "place"),
@@ -83,14 +91,35 @@ fn refused(refusal: Refusal) -> String {
     format!("refused ({}): {refusal}", refusal.number())
 }
 
-pub fn list(path: &Path) -> Result<Outcome> {
-    let input = Input::open(path)?;
-    let mut progress = Progress::new(input.length);
-    let mut window = Window::new(input.file);
+/// A take with its name and its length, to be read with the parameter sets of another one, if one
+/// is named.
+fn open(
+    take: &Path,
+    like: Option<&Path>,
+    window: fn(File) -> Window<File>,
+) -> Result<(Window<File>, Name, Progress)> {
+    let Input { file, name, length } = Input::open(take)?;
+    let mut window = window(file);
+    if let Some(like) = like {
+        let other = Input::open(like)?;
+        match window.hold_those_of(other.file) {
+            Ok(true) => {}
+            Ok(false) => {
+                return Error::sentence(format!("{} has no parameter sets to go by", other.name))
+            }
+            Err(error) => return Err(Error::reading(&other.name, error)),
+        }
+    }
+    Ok((window, name, Progress::new(length)))
+}
+
+pub fn list(path: &Path, like: Option<&Path>) -> Result<Outcome> {
+    let (mut window, name, mut progress) = open(path, like, Window::new)?;
     let mut text = Text::new()?;
-    let mut tally = Tally::default();
+    let on_terminal = io::stdout().is_terminal();
+    let mut tally = Tally { shape: window.sps(), ..Tally::default() };
     text.line(format!("{:>14} {:>12}  what", "offset", "length"))?;
-    while let Some(found) = window.next().map_err(|error| Error::reading(&input.name, error))? {
+    while let Some(found) = window.next().map_err(|error| Error::reading(&name, error))? {
         tally.add(&found);
         let what = match found.what {
             What::Sps(sps) => format!("sequence parameter set: {}", y4m::words(&sps)),
@@ -99,7 +128,9 @@ pub fn list(path: &Path) -> Result<Outcome> {
             What::Refused(refusal) => refused(refusal),
         };
         text.line(format!("{:>14} {:>12}  {what}", found.offset, found.length))?;
-        progress.show(window.offset(), tally.pictures);
+        if !on_terminal {
+            progress.show(window.offset(), tally.pictures);
+        }
     }
     text.line(format!(
         "{} and {} refused in {} bytes: {}",
@@ -112,17 +143,14 @@ pub fn list(path: &Path) -> Result<Outcome> {
     Ok(Outcome::Complete)
 }
 
-pub fn check(path: &Path) -> Result<Outcome> {
-    let input = Input::open(path)?;
-    let mut progress = Progress::new(input.length);
-    let mut window = Window::new(input.file);
-    let mut tally = Tally::default();
-    while let Some(found) = window.next().map_err(|error| Error::reading(&input.name, error))? {
+pub fn check(path: &Path, like: Option<&Path>) -> Result<Outcome> {
+    let (mut window, name, mut progress) = open(path, like, Window::new)?;
+    let mut tally = Tally { shape: window.sps(), ..Tally::default() };
+    while let Some(found) = window.next().map_err(|error| Error::reading(&name, error))? {
         tally.add(&found);
         progress.show(window.offset(), tally.pictures);
     }
     drop(progress);
-    let name = &input.name;
     let pictures = tally.pictures();
     let (outcome, verdict) = match &tally.first {
         _ if tally.pictures == 0 => {
@@ -150,12 +178,10 @@ pub fn check(path: &Path) -> Result<Outcome> {
 }
 
 /// The command: saves what can be saved, and says what was lost.
-pub fn extract(from: &Path, to: &Path, rate: &str) -> Result<Outcome> {
-    let input = Input::open(from)?;
+pub fn extract(from: &Path, to: &Path, rate: &str, like: Option<&Path>) -> Result<Outcome> {
+    let (mut window, take, mut progress) = open(from, like, Window::with_samples)?;
     let mut output = Output::create(to, Some(from))?;
-    let mut progress = Progress::new(input.length);
-    let mut window = Window::with_samples(input.file);
-    let tally = save(&mut window, &input.name, &mut output, rate, &mut |found, tally, offset| {
+    let tally = save(&mut window, &take, &mut output, rate, &mut |found, tally, offset| {
         if let What::Refused(refusal) = found.what {
             if tally.refused <= TOLD {
                 let place = match tally.pictures {
@@ -174,7 +200,7 @@ pub fn extract(from: &Path, to: &Path, rate: &str) -> Result<Outcome> {
         progress.say(format!("lost: {more}; reelpony list shows all"));
     }
     if tally.pictures == 0 {
-        return Error::sentence(format!("{} {}", input.name, tally.nothing(window.offset())));
+        return Error::sentence(format!("{take} {}", tally.nothing(window.offset())));
     }
     let name = output.name.clone();
     output.finish()?;
@@ -197,7 +223,7 @@ pub fn save<R: Read>(
     rate: &str,
     told: &mut dyn FnMut(&Found, &Tally, u64),
 ) -> Result<Tally> {
-    let mut tally = Tally::default();
+    let mut tally = Tally { shape: window.sps(), ..Tally::default() };
     while let Some(found) = window.next().map_err(|error| Error::reading(name, error))? {
         tally.add(&found);
         if let (What::Picture, Some(sps)) = (found.what, window.sps()) {

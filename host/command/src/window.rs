@@ -1,30 +1,31 @@
 //! Reading a take of any length through a window over its file.
 //!
-//! The library's reader wants one slice with the whole next unit in it. Here that slice is a part of
-//! the file, and every answer is the one that a slice of the whole file would give at that place:
+//! The library's reader wants one slice with the whole next unit in it. Here that slice is a part
+//! of the file, and every answer is the one that a slice of the whole file would give there:
 //!
 //! - By its rules a call looks at the bytes from its place to the next start code. If they are not
-//!   all zero, that is the answer (refusal 10). Otherwise it looks at the unit behind the start code,
-//!   up to the start code after that. "The end" of the slice does the same as a start code, and the
-//!   zeros before either belong to no unit. So a slice that ends where the next start code begins
-//!   gives the same answer as one that goes on, and no call is made before that start code or the
-//!   end of the file was seen.
-//! - Zeros at the place are skipped whatever follows, so all but two of them may be dropped; two may
-//!   be the begin of a start code. Only the offset of refusal 10 needs the place before them.
-//! - A byte other than zero that no start code stands before decides for refusal 10. The bytes after
-//!   it are only searched for the next start code, and dropped.
+//!   all zero, that is the answer (refusal 10). Otherwise it looks at the unit behind the start
+//!   code, up to the start code after that. The slice's end does the same as a start code, and the
+//!   zeros before either belong to no unit. So a slice that ends where that next start code begins
+//!   gives the same answer as one that goes on, and no unit is judged before the start code behind
+//!   it or the end of the file was seen.
+//! - Zeros at the place are skipped whatever follows, so all but two of them may be dropped; two
+//!   may be the begin of a start code. Only the offset of refusal 10 needs the place before them.
+//! - A byte other than zero that no start code stands before decides for refusal 10. The bytes
+//!   after it are only searched for the next start code, and dropped.
 //! - A unit can be longer than any that is accepted, without a start code to the end of a large
 //!   file. Of such a unit the first bytes are kept, more than an accepted unit can have
 //!   ([`longest_unit`]), and the rest is looked through in pieces and dropped. If the rest is all
-//!   zeros, the kept bytes are the unit. If not, refusal 12 is given exactly when one of its patterns
-//!   stands in the kept bytes or in a piece: each piece begins with the last three bytes before
-//!   it, a pattern has four at most, and three zeros count only with another byte behind them, in a
-//!   piece as in a unit. Without a pattern the kept bytes lack at most two zeros at their
-//!   end, so they are still too long for a parameter set and for a picture, and all the later
+//!   zeros, the kept bytes are the unit. If not, refusal 12 is given exactly when one of its
+//!   patterns stands in the kept bytes or in a piece: each piece begins with the last three bytes
+//!   before it, a pattern has four at most, and three zeros count only with another byte behind
+//!   them, in a piece as in a unit. Without a pattern the kept bytes lack at most two zeros at
+//!   their end, so they are still too long for a parameter set and for a picture, and all the later
 //!   refusals (13 to 18) fall on them as on the whole unit.
 //! - The calls differ in their place too. A reader can't be moved, but it can be copied: `held` is
-//!   the reader as it stood when it last learned a parameter set. The unread bytes are kept from its
-//!   place on, and each call is made by a copy of it.
+//!   the reader as it stood when it last learned a parameter set. Each call is made by a copy of it,
+//!   with a slice in which the unread bytes begin at its place. What stands before them is never
+//!   looked at.
 
 use std::io::{self, Read};
 
@@ -59,9 +60,10 @@ pub struct Window<R> {
     chunk: usize,
     at_end: bool,
     held: Reader,
-    /// The unread bytes, from index `held.place()` on. What stands before them has no meaning.
     bytes: Vec<u8>,
-    /// The file's offset of the first unread byte.
+    /// The index of the first unread byte, never less than the reader's place.
+    begin: usize,
+    /// The file's offset of that byte.
     offset: u64,
     keeps_samples: bool,
     planes: [Vec<u8>; 3],
@@ -81,10 +83,31 @@ impl<R: Read> Window<R> {
             at_end: false,
             held: Reader::new(),
             bytes: Vec::new(),
+            begin: 0,
             offset: 0,
             keeps_samples: false,
             planes: Default::default(),
         }
+    }
+
+    /// Goes on as if the parameter sets that another take begins with had been read here. Answers
+    /// whether it has both.
+    pub fn hold_those_of(&mut self, other: impl Read) -> io::Result<bool> {
+        let mut other = Window::new(other);
+        while let Some(found) = other.next()? {
+            let whole = other.held.sps().is_some() && other.held.has_pps();
+            if whole || found.what == What::Picture {
+                break;
+            }
+        }
+        let whole = other.held.sps().is_some() && other.held.has_pps();
+        if whole && self.bytes.is_empty() {
+            self.held = other.held;
+            self.begin = self.held.place();
+            self.bytes = vec![0; self.begin];
+            self.make_planes()?;
+        }
+        Ok(whole)
     }
 
     /// The sequence parameter set that is held.
@@ -105,19 +128,19 @@ impl<R: Read> Window<R> {
     /// The next thing in the take. None at the end.
     pub fn next(&mut self) -> io::Result<Option<Found>> {
         let place = self.offset;
-        let front = self.held.place();
         loop {
-            match self.bytes[front..].iter().position(|&byte| byte != 0) {
-                Some(zeros) if zeros >= 2 && self.bytes[front + zeros] == 1 => {
-                    return self.unit(front + zeros + 1).map(Some);
+            let begin = self.begin;
+            match first_other(&self.bytes[begin..]) {
+                Some(zeros) if zeros >= 2 && self.bytes[begin + zeros] == 1 => {
+                    return self.unit(begin + zeros + 1).map(Some);
                 }
-                Some(zeros) => return self.stray(place, front + zeros).map(Some),
+                Some(zeros) => return self.stray(place, begin + zeros).map(Some),
                 None if self.at_end => {
                     self.drop_to(self.bytes.len());
                     return Ok(None);
                 }
                 None => {
-                    self.drop_to(self.bytes.len().saturating_sub(2).max(front));
+                    self.drop_to(self.bytes.len().saturating_sub(2).max(begin));
                     self.read_more()?;
                 }
             }
@@ -126,14 +149,13 @@ impl<R: Read> Window<R> {
 
     /// Bytes that no start code stands before; the first that isn't zero has the index `first`.
     fn stray(&mut self, place: u64, first: usize) -> io::Result<Found> {
-        let front = self.held.place();
         let what = self.judged(first + 1)?;
         let mut end = self.offset;
         let mut from = first + 1;
         loop {
             let code = start_code(&self.bytes, from);
             let to = code.unwrap_or(self.bytes.len());
-            match trimmed(&self.bytes[front..to]) {
+            match trimmed(&self.bytes[self.begin..to]) {
                 0 => {}
                 length => end = self.offset + length as u64,
             }
@@ -141,15 +163,15 @@ impl<R: Read> Window<R> {
                 self.drop_to(to);
                 return Ok(Found { offset: place, length: end - place, what });
             }
-            self.drop_to(to.saturating_sub(2).max(front));
+            self.drop_to(to.saturating_sub(2).max(self.begin));
             self.read_more()?;
-            from = front;
+            from = self.begin;
         }
     }
 
     /// The unit that begins at an index, behind its start code.
     fn unit(&mut self, begin: usize) -> io::Result<Found> {
-        let offset = self.offset + (begin - self.held.place()) as u64;
+        let offset = self.offset + (begin - self.begin) as u64;
         let most = longest_unit(self.held.sps());
         let mut from = begin;
         let end = loop {
@@ -214,7 +236,8 @@ impl<R: Read> Window<R> {
     fn judged(&mut self, end: usize) -> io::Result<What> {
         let mut reader = self.held;
         let [y, cb, cr] = &mut self.planes;
-        let what = match reader.read(&self.bytes[..end], PlanesMut { y, cb, cr }) {
+        let slice = &self.bytes[self.begin - reader.place()..end];
+        let what = match reader.read(slice, PlanesMut { y, cb, cr }) {
             Answer::Sps { sps, .. } => What::Sps(sps),
             Answer::Pps { .. } => What::Pps,
             Answer::Picture { .. } => What::Picture,
@@ -227,26 +250,39 @@ impl<R: Read> Window<R> {
             Answer::End => What::Refused(Refusal::Stray),
         };
         if (reader.sps(), reader.has_pps()) != (self.held.sps(), self.held.has_pps()) {
-            if let (true, What::Sps(sps)) = (self.keeps_samples, what) {
-                for (plane, length) in self.planes.iter_mut().zip(sps.plane_lengths()) {
-                    *plane = zeros(length)?;
-                }
-            }
             self.held = reader;
+            self.make_planes()?;
         }
         Ok(what)
     }
 
+    /// Planes for the pictures to come, where they are kept.
+    fn make_planes(&mut self) -> io::Result<()> {
+        if let (true, Some(sps)) = (self.keeps_samples, self.held.sps()) {
+            for (plane, length) in self.planes.iter_mut().zip(sps.plane_lengths()) {
+                if plane.len() != length {
+                    *plane = zeros(length)?;
+                }
+            }
+        }
+        Ok(())
+    }
+
     /// Drops the unread bytes before an index.
     fn drop_to(&mut self, from: usize) {
-        self.go_on(from, self.offset + (from - self.held.place()) as u64);
+        self.go_on(from, self.offset + (from - self.begin) as u64);
     }
 
     /// Goes on with the bytes from an index on, where the file has the offset given. The reader's
-    /// place is never behind it: a call moves to its slice's end at most.
+    /// place is never behind it: a call moves to its slice's end at most. Bytes that were read are
+    /// taken away when they are no fewer than the unread ones, so that few are moved for each.
     fn go_on(&mut self, from: usize, offset: u64) {
-        self.bytes.drain(self.held.place()..from);
-        self.offset = offset;
+        (self.begin, self.offset) = (from, offset);
+        let spent = self.begin - self.held.place();
+        if spent >= self.bytes.len() - self.begin {
+            self.bytes.drain(..spent);
+            self.begin -= spent;
+        }
     }
 
     fn read_more(&mut self) -> io::Result<()> {
@@ -270,10 +306,11 @@ pub fn longest_picture(sps: &Sps) -> usize {
     (across * down * macroblock + 16) / 2 * 3
 }
 
+/// Bytes that are looked at together, with no branch for each: the compiler takes vectors then.
+const STEP: usize = 64;
+
 /// Where the first start code begins at an index or behind it.
 fn start_code(bytes: &[u8], from: usize) -> Option<usize> {
-    // Many places at a time and no branch for each, so that the compiler takes vectors for them.
-    const STEP: usize = 64;
     let is_code = |three: &[u8]| three[0] | three[1] | (three[2] ^ 1) == 0;
     let mut at = from;
     while let Some(part) = bytes.get(at..at + STEP + 2) {
@@ -286,9 +323,21 @@ fn start_code(bytes: &[u8], from: usize) -> Option<usize> {
     Some(at + bytes.get(at..)?.windows(3).position(is_code)?)
 }
 
+/// Where the first byte is that isn't zero.
+fn first_other(bytes: &[u8]) -> Option<usize> {
+    let zeros = bytes.chunks_exact(STEP).take_while(|part| all_zero(part)).count() * STEP;
+    Some(zeros + bytes[zeros..].iter().position(|&byte| byte != 0)?)
+}
+
 /// The length without zeros at the end.
 fn trimmed(bytes: &[u8]) -> usize {
-    bytes.iter().rposition(|&byte| byte != 0).map_or(0, |last| last + 1)
+    let zeros = bytes.rchunks_exact(STEP).take_while(|part| all_zero(part)).count() * STEP;
+    let rest = &bytes[..bytes.len() - zeros];
+    rest.iter().rposition(|&byte| byte != 0).map_or(0, |last| last + 1)
+}
+
+fn all_zero(bytes: &[u8]) -> bool {
+    bytes.iter().fold(0, |all, byte| all | byte) == 0
 }
 
 /// Adds what one read gives; 0 bytes at the end.
@@ -418,7 +467,9 @@ mod tests {
                 Answer::Picture { offset } => (offset, What::Picture),
                 Answer::Refused { refusal, offset } => (offset, What::Refused(refusal)),
             };
-            let length = trimmed(&file[offset..reader.place()]) as u64;
+            let bytes = &file[offset..reader.place()];
+            let length =
+                bytes.iter().rposition(|&byte| byte != 0).map_or(0, |last| last as u64 + 1);
             let samples = (what == What::Picture).then_some([y, cb, cr]);
             reading.push((Found { offset: offset as u64, length, what }, samples));
         }

@@ -1,4 +1,4 @@
-//! Raw video as ffmpeg writes and reads it: YUV4MPEG2. A header line says what the samples are; each
+//! Raw video as ffmpeg writes and reads it: YUV4MPEG2. A header line says what the samples are; a
 //! picture is a line that begins with FRAME, then the planes in tight rows. Samples of 12 bits are
 //! two bytes each, the low one first; in a take two of them stand in three bytes.
 

@@ -1,5 +1,5 @@
-//! The command as a person runs it, on real files: good ones, cut, damaged and empty ones, files that
-//! are something else, and names that lead nowhere.
+//! The command as a person runs it, on real files: good ones, cut, damaged and empty ones, files
+//! that are something else, and names that lead nowhere.
 
 use std::fs;
 use std::io::{Read, Write};
@@ -166,7 +166,7 @@ impl Kind {
     }
 }
 
-/// A folder with the take of a kind, `take.h264`, and where its pictures begin and how long they are.
+/// A folder with the take of a kind, `take.h264`, and each picture's place and length in it.
 fn recorded(name: &str, kind: &Kind, count: u64) -> (PathBuf, Vec<u8>, Vec<(usize, usize)>) {
     let folder = folder(name);
     fs::write(folder.join("in.y4m"), kind.y4m(count)).unwrap();
@@ -336,6 +336,50 @@ fn damaged_files() {
     }
 }
 
+/// The first bytes are lost, and with them the parameter sets: another take of the shoot has them.
+#[test]
+fn lost_parameter_sets() {
+    for kind in &KINDS {
+        let (folder, take, places) = recorded(&format!("like-{}", kind.y4m), kind, 3);
+        let other = KINDS.iter().find(|other| other.words != kind.words).unwrap();
+        fs::write(folder.join("other.y4m"), other.y4m(1)).unwrap();
+        assert_eq!(run(&folder, &["record", "other.y4m", "other.h264"]).status, 0);
+        let other = fs::read(folder.join("other.h264")).unwrap();
+        let first = places[0].0 - 4;
+        for (name, damaged, refused) in [
+            ("cut off", take[first..].to_vec(), 0),
+            ("overwritten", [&vec![9; first], &take[first..]].concat(), 1),
+            ("zeros", [&vec![0; first], &take[first..]].concat(), 0),
+            ("of another size", [&other[..30], &take[first..]].concat(), 1),
+        ] {
+            fs::write(folder.join("bad.h264"), damaged).unwrap();
+            let check = run(&folder, &["check", "bad.h264"]);
+            assert_eq!(check.status, 1, "{name}: {}", check.text());
+            if name != "of another size" {
+                assert!(check.text().contains("has 3 pictures, but not both"), "{}", check.text());
+            }
+            fails_to_extract(&folder);
+            let like = ["extract", "--like", "take.h264", "bad.h264", "out.y4m"];
+            let ran = run(&folder, &like);
+            assert_eq!(ran.status, if refused == 0 { 0 } else { 3 }, "{name}: {}", ran.said);
+            let saved = fs::read(folder.join("out.y4m")).unwrap();
+            assert!(kind.is_saved(&saved, &kind.pictures(3)), "{name}");
+            fs::remove_file(folder.join("out.y4m")).unwrap();
+            let list = run(&folder, &["list", "bad.h264", "--like", "take.h264"]);
+            assert!(list.text().contains(&format!(": 3 pictures of {}\n", kind.words)));
+        }
+        let like = ["check", "take.h264", "--like", "in.y4m"];
+        fails(&folder, &like, 1, "in.y4m has no parameter sets to go by");
+    }
+}
+
+/// Nothing is saved from the bad take, and no file is left.
+fn fails_to_extract(folder: &Path) {
+    let ran = run(folder, &["extract", "bad.h264", "out.y4m"]);
+    assert_eq!(ran.status, 1, "{}", ran.said);
+    assert!(!folder.join("out.y4m").exists());
+}
+
 #[test]
 fn no_takes() {
     let folder = folder("no-takes");
@@ -442,6 +486,7 @@ fn wrong_usage() {
         &["extract", "a", "b", "--rate", "25"],
         &["extract", "a", "b", "--rate", "0:1"],
         &["record", "a", "b", "--rate", "25:1"],
+        &["check", "a", "--like"],
         &["demo", "a", "b"],
     ] {
         fails(&folder, arguments, 2, "; see: reelpony help");
@@ -512,7 +557,7 @@ fn beside_ffmpeg() {
         fs::write(folder.join("in.y4m"), &made).unwrap();
         assert_eq!(run(&folder, &["record", "in.y4m", "take.h264"]).status, 0, "{format}");
 
-        // A take is of full range, which has a name of its own with 8 bits; another would be converted to.
+        // Full range has a name of its own with 8 bits; to another one it would be converted.
         let full = if format == "yuv420p" { "yuvj420p" } else { format };
         let read = ["-f", "h264", "-i", "take.h264", "-pix_fmt", full];
         let decoded = ffmpeg(&folder, &[&read[..], &y4m, &["-"]].concat());
