@@ -3,20 +3,19 @@
 // each plane, so that a plane is written from its first byte to its last; so is one all samples of which are zero; another macroblock by macroblock.
 use nal_unit::rows;
 use nal_unit::taking;
+use slice::macroblock;
 use ycbcr_image::Session;
 ghost use mathlib.Core.Path.{_≡_};
 ghost use mathlib.Core.Bool.{true};
 ghost use Prim.Native.Nat.{_+_, _*_, _≤_, _<_, min};
 ghost use lib.Dec.{eqb};
 ghost use lib.ListN.{length};
-ghost use Rattle.lists.specs.Fill.{splice};
-ghost use Rattle.lists.specs.Part.{part};
 ghost use Rattle.nal_unit.specs.Kept.{insCount};
 ghost use Rattle.nal_unit.specs.Taking.{Stands};
 ghost use Rattle.ycbcr_image.specs.Form.{planes, blockBytes, mbBytes};
 ghost use Rattle.ycbcr_image.specs.Sizes.{sequenceOf, picWidthInMbs, frameHeightInMbs, tightLength};
 ghost use Rattle.ycbcr_image.specs.Accepted.{Fine};
-ghost use Rattle.slice.specs.Cat.{cat, rowsOf};
+ghost use Rattle.slice.specs.Cat.{cat};
 ghost use Rattle.slice.specs.Laid.{Laid};
 ghost use Rattle.slice.specs.Picture.{pictureLength, offIn};
 ghost use Rattle.reader.specs.Heads.{UnitAt, payloadAt};
@@ -159,85 +158,6 @@ fn take_mbs(
     a
 }
 
-// Copies a row of a block. Its width is one of four, for each of which there is a copy of its own, since only a copy of a fixed width is fast.
-fn copy_row(s: &[u8], p: usize, w: usize, out: &mut [u8], at: usize)
-    requires { ⌜ (p + w ≤ length (now s)) × (at + w ≤ length (now out)) ⌝ }
-    ensures { λ _. ⌜ now (out .exit) ≡ splice (now (out .entry)) at (part (now (s .entry)) p w) ⌝ }
-{
-    if w == 16 {
-        rows::copy16(s, p, out, at);
-        return;
-    }
-    if w == 8 {
-        rows::copy8(s, p, out, at);
-        return;
-    }
-    if w == 24 {
-        rows::copy24(s, p, out, at);
-        return;
-    }
-    if w == 12 {
-        rows::copy12(s, p, out, at);
-        return;
-    }
-    rows::copy(s, p, w, out, at);
-}
-
-// Lays h rows of w bytes side by side, the first from the place p of s and each `stride` behind the last, and answers the place behind them.
-fn copy_rows(
-    s: &[u8],
-    p: usize,
-    stride: usize,
-    w: usize,
-    h: usize,
-    out: &mut [u8],
-    at: usize,
-) -> usize
-    requires { ⌜ (p + h * stride + w ≤ length (now s) + stride) × (h * stride ≤ length (now s)) ⌝ }
-    requires { ⌜ at + h * w ≤ length (now out) ⌝ }
-    ensures { λ r. ⌜ Laid (now (out .entry)) at (cat (rowsOf (now (s .entry)) stride p w) 0 h) (now (out .exit)) r ⌝ }
-{
-    let mut q = p;
-    let mut a = at;
-    let mut k = 0;
-    while k < h {
-        copy_row(s, q, w, out, a);
-        q += stride;
-        a += w;
-        k += 1;
-    }
-    a
-}
-
-// The same for the widths that there are, each by itself: a loop over rows of a fixed width is fast.
-fn lay_rows(
-    s: &[u8],
-    p: usize,
-    stride: usize,
-    w: usize,
-    h: usize,
-    out: &mut [u8],
-    at: usize,
-) -> usize
-    requires { ⌜ (p + h * stride + w ≤ length (now s) + stride) × (h * stride ≤ length (now s)) ⌝ }
-    requires { ⌜ at + h * w ≤ length (now out) ⌝ }
-    ensures { λ r. ⌜ Laid (now (out .entry)) at (cat (rowsOf (now (s .entry)) stride p w) 0 h) (now (out .exit)) r ⌝ }
-{
-    if w == 16 {
-        return copy_rows(s, p, stride, 16, h, out, at);
-    }
-    if w == 8 {
-        return copy_rows(s, p, stride, 8, h, out, at);
-    }
-    if w == 24 {
-        return copy_rows(s, p, stride, 24, h, out, at);
-    }
-    if w == 12 {
-        return copy_rows(s, p, stride, 12, h, out, at);
-    }
-    copy_rows(s, p, stride, w, h, out, at)
-}
-
 // Lays a line of a plane: `full` pieces of bw bytes, the first from the place p of s and each `unit` behind the last, and the first `rest` bytes of one more.
 fn line(
     s: &[u8],
@@ -253,7 +173,7 @@ fn line(
     requires { ⌜ at + (full * bw + rest) ≤ length (now out) ⌝ }
     ensures { λ r. ⌜ Laid (now (out .entry)) at (pieces (now (s .entry)) unit p bw full rest) (now (out .exit)) r ⌝ }
 {
-    let a = lay_rows(s, p, unit, bw, full, out, at);
+    let a = macroblock::lay_rows(s, p, unit, bw, full, out, at);
     if rest == 0 {
         return a;
     }

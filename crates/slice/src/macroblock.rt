@@ -67,7 +67,7 @@ fn copy_rows(
 }
 
 // The same for the widths that there are, each by itself: a loop over rows of a fixed width is fast.
-fn lay_rows(
+pub fn lay_rows(
     s: &[u8],
     p: usize,
     stride: usize,

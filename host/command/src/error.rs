@@ -1,0 +1,60 @@
+//! How a command ends: with a status, or with a sentence for a person and a status.
+
+use std::fmt::Display;
+use std::io;
+use std::process::ExitCode;
+
+/// What a command did.
+#[derive(Clone, Copy, Debug, PartialEq, Eq)]
+pub enum Outcome {
+    /// All of it.
+    Complete,
+    /// A part: something was lost or is damaged.
+    Partial,
+    /// The take has nothing that can be saved. What there is to say was said.
+    Nothing,
+}
+
+/// Why it could not be done.
+#[derive(Debug)]
+pub enum Error {
+    /// For a person.
+    Sentence(String),
+    /// The command was called wrongly.
+    Usage(String),
+    /// Whoever read the output went away. There is nobody to tell.
+    BrokenPipe,
+}
+
+pub type Result<T> = std::result::Result<T, Error>;
+
+impl Error {
+    /// A file that can't be read.
+    pub fn reading(name: impl Display, error: io::Error) -> Error {
+        Error::Sentence(format!("{name} can't be read: {error}"))
+    }
+
+    /// A file that can't be written.
+    pub fn writing(name: impl Display, error: io::Error) -> Error {
+        match error.kind() {
+            io::ErrorKind::BrokenPipe => Error::BrokenPipe,
+            _ => Error::Sentence(format!("{name} can't be written: {error}")),
+        }
+    }
+
+    /// Something else, in a sentence.
+    pub fn sentence<T>(text: impl Into<String>) -> Result<T> {
+        Err(Error::Sentence(text.into()))
+    }
+}
+
+/// The status of the whole program.
+pub fn status(outcome: &Result<Outcome>) -> ExitCode {
+    ExitCode::from(match outcome {
+        Ok(Outcome::Complete) => 0,
+        Ok(Outcome::Partial) => 3,
+        Ok(Outcome::Nothing) => 1,
+        Err(Error::Sentence(_) | Error::BrokenPipe) => 1,
+        Err(Error::Usage(_)) => 2,
+    })
+}

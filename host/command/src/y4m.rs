@@ -1,0 +1,387 @@
+//! Raw video as ffmpeg writes and reads it: YUV4MPEG2. A header line says what the samples are; a
+//! picture is a line that begins with FRAME, then the planes in tight rows. Samples of 12 bits are
+//! two bytes each, the low one first; in a take two of them stand in three bytes.
+
+use std::io::{self, BufRead, Read};
+
+use reelpony::reader::Sps;
+use reelpony::ycbcr_image::{DataPlane, Planes, YCbCrImage};
+use reelpony::BitDepth::{self, Depth12, Depth8};
+
+use crate::error::{Error, Result};
+use crate::files::{Name, Output};
+use crate::window::zeros;
+
+/// Lines are not longer than this.
+const LONGEST_LINE: u64 = 4096;
+
+/// What a Y4M's header says.
+#[derive(Debug, PartialEq, Eq)]
+pub struct Header {
+    pub shape: Sps,
+    /// What it says of its samples that a take can't say, in words.
+    pub unkept: Vec<&'static str>,
+}
+
+/// A Y4M that is read picture by picture.
+pub struct Source<R> {
+    input: R,
+    name: Name,
+    pub header: Header,
+    planes: Vec<Plane>,
+    /// A row of 12-bit samples as they are read.
+    row: Vec<u8>,
+    pub pictures: u64,
+    /// Bytes read.
+    pub bytes: u64,
+}
+
+/// A plane with padding up to whole macroblocks.
+struct Plane {
+    name: &'static str,
+    data: Vec<u8>,
+    stride: usize,
+    /// Visible samples across and down.
+    across: usize,
+    down: usize,
+}
+
+impl<R: BufRead> Source<R> {
+    /// Reads the header. Sizes and kinds that no take can have are an error.
+    pub fn open(mut input: R, name: &Name) -> Result<Source<R>> {
+        let line = line(&mut input).map_err(|error| Error::reading(name, error))?;
+        let header = match line.as_deref().map(Header::parse) {
+            Some(Ok(header)) => header,
+            Some(Err(text)) => return Error::sentence(format!("{name} {text}")),
+            None => return Error::sentence(format!("{name} {NO_Y4M}")),
+        };
+        if let Some(text) = refused(&header.shape) {
+            return Error::sentence(format!("{name} can't become a take: {text}"));
+        }
+        let out_of_memory = |error| Error::reading(name, error);
+        let shape = header.shape;
+        let mut planes = Vec::new();
+        for (plane, (across, down)) in visible(&shape).into_iter().enumerate() {
+            let side = if plane == 0 { 16 } else { 8 };
+            let stride = row_bytes(shape.bit_depth, across.div_ceil(side) * side);
+            let data = zeros(stride * down.div_ceil(side) * side).map_err(out_of_memory)?;
+            planes.push(Plane { name: ["Y", "Cb", "Cr"][plane], data, stride, across, down });
+        }
+        let row = vec![0; 2 * shape.width as usize];
+        let bytes = line.map_or(0, |line| line.len() as u64 + 1);
+        Ok(Source { input, name: name.clone(), header, planes, row, pictures: 0, bytes })
+    }
+
+    /// Reads the next picture, if there is one.
+    pub fn next(&mut self) -> Result<Option<YCbCrImage<'_>>> {
+        let number = self.pictures + 1;
+        let name = &self.name;
+        let Some(line) = line(&mut self.input).map_err(|error| Error::reading(name, error))? else {
+            return Ok(None);
+        };
+        if line != b"FRAME" && !line.starts_with(b"FRAME ") {
+            return Error::sentence(format!("{name}: no FRAME stands before picture {number}"));
+        }
+        self.bytes += line.len() as u64 + 1;
+        let Sps { bit_depth, width, height, .. } = self.header.shape;
+        for plane in &mut self.planes {
+            plane.read(&mut self.input, bit_depth, &mut self.row).map_err(|fault| match fault {
+                Fault::Sample { column, row, value } => Error::Sentence(format!(
+                    "{name}: picture {number} has {value} in {} at column {column}, row {row}; \
+                     12 bits end at 4095",
+                    plane.name
+                )),
+                Fault::Read(error) if error.kind() == io::ErrorKind::UnexpectedEof => {
+                    Error::Sentence(format!("{name} is cut short: picture {number} is not whole"))
+                }
+                Fault::Read(error) => Error::reading(name, error),
+            })?;
+            let bytes_each = if bit_depth == Depth12 { 2 } else { 1 };
+            self.bytes += (plane.across * plane.down * bytes_each) as u64;
+        }
+        self.pictures = number;
+        let lent = |plane: &'_ Plane| DataPlane { stride: plane.stride, bit_depth, data: &[] };
+        let planes = match &self.planes[..] {
+            [y, cb, cr] => Planes::YCbCr((
+                DataPlane { data: &y.data, ..lent(y) },
+                DataPlane { data: &cb.data, ..lent(cb) },
+                DataPlane { data: &cr.data, ..lent(cr) },
+            )),
+            luma => Planes::Mono(DataPlane { data: &luma[0].data, ..lent(&luma[0]) }),
+        };
+        Ok(Some(YCbCrImage { planes, width, height }))
+    }
+}
+
+/// What can be wrong with a plane.
+enum Fault {
+    Read(io::Error),
+    Sample { column: usize, row: usize, value: u16 },
+}
+
+impl Plane {
+    /// Reads the visible rows, and repeats each row's last sample and the last row as padding.
+    fn read(
+        &mut self,
+        input: &mut impl Read,
+        depth: BitDepth,
+        row: &mut [u8],
+    ) -> std::result::Result<(), Fault> {
+        for (number, line) in self.data.chunks_exact_mut(self.stride).take(self.down).enumerate() {
+            match depth {
+                Depth8 => {
+                    input.read_exact(&mut line[..self.across]).map_err(Fault::Read)?;
+                    let last = line[self.across - 1];
+                    line[self.across..].fill(last);
+                }
+                Depth12 => {
+                    let row = &mut row[..2 * self.across];
+                    input.read_exact(row).map_err(Fault::Read)?;
+                    pack(row, line).map_err(|(column, value)| Fault::Sample {
+                        column,
+                        row: number,
+                        value,
+                    })?;
+                }
+            }
+        }
+        let (visible, padding) = self.data.split_at_mut(self.stride * self.down);
+        let last = &visible[visible.len() - self.stride..];
+        padding.chunks_exact_mut(self.stride).for_each(|line| line.copy_from_slice(last));
+        Ok(())
+    }
+}
+
+/// Packs samples of two bytes, an even number of them, two in three bytes; the last one is repeated
+/// up to the line's end. The first one that has more than 12 bits is an error, with its column.
+fn pack(row: &[u8], line: &mut [u8]) -> std::result::Result<(), (usize, u16)> {
+    let mut high = 0;
+    let mut packed = line.chunks_exact_mut(3);
+    for (four, three) in row.chunks_exact(4).zip(&mut packed) {
+        high |= four[1] | four[3];
+        three[0] = four[1] << 4 | four[0] >> 4;
+        three[1] = four[0] << 4 | four[3];
+        three[2] = four[2];
+    }
+    if high > 15 {
+        let value = |two: &[u8]| u16::from_le_bytes([two[0], two[1]]);
+        let mut samples = row.chunks_exact(2).map(value).enumerate();
+        if let Some(found) = samples.find(|(_, value)| *value > 4095) {
+            return Err(found);
+        }
+    }
+    if let [.., low, high] = *row {
+        let twice = [high << 4 | low >> 4, low << 4 | high, low];
+        packed.for_each(|three| three.copy_from_slice(&twice));
+    }
+    Ok(())
+}
+
+/// Unpacks bytes of two samples in three to two bytes each.
+fn unpack(packed: &[u8], row: &mut [u8]) {
+    for (three, four) in packed.chunks_exact(3).zip(row.chunks_exact_mut(4)) {
+        four[0] = three[0] << 4 | three[1] >> 4;
+        four[1] = three[0] >> 4;
+        four[2] = three[2];
+        four[3] = three[1] & 15;
+    }
+}
+
+const NO_Y4M: &str = "is not a Y4M file: it doesn't begin with a line YUV4MPEG2";
+
+impl Header {
+    /// From the first line. An error is what to say behind the file's name.
+    fn parse(line: &[u8]) -> std::result::Result<Header, String> {
+        let line = String::from_utf8_lossy(line);
+        let mut fields = line.split(' ');
+        if fields.next() != Some("YUV4MPEG2") {
+            return Err(NO_Y4M.into());
+        }
+        let mut kind = "420";
+        let mut sides = [None; 2];
+        let mut unkept = Vec::new();
+        for field in fields {
+            let mut letters = field.chars();
+            let letter = letters.next();
+            let value = letters.as_str();
+            match letter {
+                Some('W') => sides[0] = value.parse().ok(),
+                Some('H') => sides[1] = value.parse().ok(),
+                Some('C') => kind = value,
+                Some('I') if !matches!(value, "p" | "?") => {
+                    unkept.push("it is interlaced, and a take doesn't say so");
+                }
+                Some('X') if value == "COLORRANGE=LIMITED" => {
+                    unkept.push("its samples are of limited range, and a take says full range");
+                }
+                _ => {}
+            }
+        }
+        let [Some(width), Some(height)] = sides else {
+            return Err("is not a Y4M file: its first line has no width and height".into());
+        };
+        let (colour, bit_depth) = match kind {
+            "mono" => (false, Depth8),
+            "mono12" => (false, Depth12),
+            "420" | "420jpeg" | "420mpeg2" | "420paldv" => (true, Depth8),
+            "420p12" => (true, Depth12),
+            _ => {
+                return Err(format!(
+                    "is of the kind {kind:?}, which no take can have: only mono, mono12, 420 and \
+                     420p12"
+                ))
+            }
+        };
+        Ok(Header { shape: Sps { width, height, colour, bit_depth }, unkept })
+    }
+}
+
+/// Why no take can have pictures like these. The library is asked with planes of no bytes: it looks
+/// at them only when the size and the kind are right.
+fn refused(shape: &Sps) -> Option<String> {
+    use reelpony::Refusal::{Colour12Width, OddHeight, OddWidth, Size};
+
+    let none = DataPlane { data: &[], stride: 0, bit_depth: shape.bit_depth };
+    let planes = match shape.colour {
+        true => Planes::YCbCr((none, none, none)),
+        false => Planes::Mono(none),
+    };
+    let image = YCbCrImage { planes, width: shape.width, height: shape.height };
+    match reelpony::start(&image, &mut []) {
+        Err(refusal @ (Size | Colour12Width | OddWidth | OddHeight)) => {
+            Some(format!("{refusal}, and this is {}", words(shape)))
+        }
+        _ => None,
+    }
+}
+
+/// `640x480, colour, 8 bits`.
+pub fn words(shape: &Sps) -> String {
+    let Sps { width, height, colour, bit_depth } = shape;
+    let colour = if *colour { "colour" } else { "monochrome" };
+    format!("{width}x{height}, {colour}, {} bits", bit_depth.num_bits())
+}
+
+/// Visible samples across and down of each plane.
+pub fn visible(shape: &Sps) -> Vec<(usize, usize)> {
+    let (width, height) = (shape.width as usize, shape.height as usize);
+    let chroma = (width / 2, height / 2);
+    match shape.colour {
+        true => vec![(width, height), chroma, chroma],
+        false => vec![(width, height)],
+    }
+}
+
+/// Bytes of a row in a take.
+fn row_bytes(depth: BitDepth, samples: usize) -> usize {
+    samples * usize::from(depth.num_bits()) / 8
+}
+
+/// The next line without its end; None at the end of the file. A longer one than lines are is cut.
+fn line(input: &mut impl BufRead) -> io::Result<Option<Vec<u8>>> {
+    let mut line = Vec::new();
+    let length = input.take(LONGEST_LINE).read_until(b'\n', &mut line)?;
+    if line.last() == Some(&b'\n') {
+        line.pop();
+    }
+    Ok((length > 0).then_some(line))
+}
+
+/// The header of a Y4M of such pictures, so many a second.
+pub fn header(shape: &Sps, rate: &str) -> String {
+    let kind = match (shape.colour, shape.bit_depth) {
+        (false, Depth8) => "mono",
+        (false, Depth12) => "mono12",
+        (true, Depth8) => "420jpeg XYSCSS=420JPEG",
+        (true, Depth12) => "420p12 XYSCSS=420P12",
+    };
+    let Sps { width, height, .. } = shape;
+    format!("YUV4MPEG2 W{width} H{height} F{rate} Ip A0:0 C{kind} XCOLORRANGE=FULL\n")
+}
+
+/// Writes a picture from planes as a take's reader leaves them.
+pub fn write(output: &mut Output, depth: BitDepth, planes: &[Vec<u8>; 3]) -> Result<()> {
+    output.write(b"FRAME\n")?;
+    let mut row = Vec::new();
+    for plane in planes {
+        match depth {
+            Depth8 => output.write(plane)?,
+            Depth12 => {
+                // Some thousands of samples at a time.
+                for part in plane.chunks(3 << 14) {
+                    row.resize(part.len() / 3 * 4, 0);
+                    unpack(part, &mut row);
+                    output.write(&row)?;
+                }
+            }
+        }
+    }
+    Ok(())
+}
+
+#[cfg(test)]
+mod tests {
+    use super::*;
+
+    fn shape(width: u32, height: u32, colour: bool, bit_depth: BitDepth) -> Sps {
+        Sps { width, height, colour, bit_depth }
+    }
+
+    #[test]
+    fn headers() {
+        for (line, wanted) in [
+            ("YUV4MPEG2 W18 H10", shape(18, 10, true, Depth8)),
+            (
+                "YUV4MPEG2 W18 H10 F25:1 Ip A1:1 Cmono XCOLORRANGE=FULL",
+                shape(18, 10, false, Depth8),
+            ),
+            ("YUV4MPEG2 C420p12 H9 W7 XYSCSS=420P12", shape(7, 9, true, Depth12)),
+            ("YUV4MPEG2 W1 H1 Cmono12 I?", shape(1, 1, false, Depth12)),
+        ] {
+            let header = Header::parse(line.as_bytes());
+            assert_eq!(header, Ok(Header { shape: wanted, unkept: vec![] }), "{line}");
+        }
+        for shape in [shape(18, 10, true, Depth8), shape(4, 2, true, Depth12)] {
+            let line = header(&shape, "25:1");
+            let header = Header::parse(line.trim_end().as_bytes());
+            assert_eq!(header, Ok(Header { shape, unkept: vec![] }));
+        }
+        let header = Header::parse(b"YUV4MPEG2 W2 H2 It XCOLORRANGE=LIMITED").unwrap();
+        assert_eq!(header.unkept.len(), 2);
+        for line in ["", "YUV4MPEG", "YUV4MPEG2", "YUV4MPEG2 W2", "YUV4MPEG2 Wx H2", "\u{fffd}"] {
+            assert!(Header::parse(line.as_bytes()).is_err(), "{line}");
+        }
+    }
+
+    /// All pairs of a low and a high sample come back, and the last one is repeated.
+    #[test]
+    fn twelve_bits() {
+        let mut line = [0; 6];
+        let mut back = [0; 8];
+        for first in 0..4096u16 {
+            let second = 4095 - first;
+            let row = [first.to_le_bytes(), second.to_le_bytes()].concat();
+            assert_eq!(pack(&row, &mut line), Ok(()));
+            assert_eq!(u16::from(line[0]) << 4 | u16::from(line[1]) >> 4, first);
+            unpack(&line, &mut back);
+            assert_eq!(back[..4], row);
+            assert_eq!(back[4..], [&row[2..], &row[2..]].concat());
+        }
+        assert_eq!(pack(&[0, 0, 0, 0x10], &mut line), Err((1, 4096)));
+    }
+
+    /// The padding repeats the last sample of a row and the last row.
+    #[test]
+    fn padding() {
+        let y4m = b"YUV4MPEG2 W3 H2 Cmono\nFRAME\nabcdef";
+        let name = Name::of(std::path::Path::new("x.y4m"), "");
+        let mut source = Source::open(&y4m[..], &name).unwrap();
+        assert!(source.next().unwrap().is_some());
+        let rows: Vec<&[u8]> = source.planes[0].data.chunks(16).collect();
+        assert_eq!(rows.len(), 16);
+        assert_eq!(rows[0], b"abcccccccccccccc");
+        assert!(rows[1..].iter().all(|row| row == b"deffffffffffffff"));
+        assert!(source.next().unwrap().is_none());
+        assert_eq!(source.bytes, y4m.len() as u64);
+    }
+}
