@@ -7,3 +7,5 @@ pub mod Broken
 pub mod Promises
 pub mod Host
 pub mod Written
+pub mod Cases
+pub mod OneAnswer
