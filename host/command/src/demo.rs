@@ -16,7 +16,7 @@ use crate::record::record;
 use crate::salvage::{save, RATE};
 use crate::scene::picture;
 use crate::sheet::{sheet, Row};
-use crate::window::{Found, What, Window};
+use crate::window::{What, Window};
 use crate::y4m::{self, Source};
 
 const PICTURES: usize = 8;
@@ -54,7 +54,7 @@ impl Damage {
         }
     }
 
-    /// Damages a stretch in the middle of some bytes.
+    /// Damages a stretch that begins at an index.
     fn apply(self, take: &mut Vec<u8>, at: usize) {
         let end = (at + SECTOR).min(take.len());
         let noise = (0..SECTOR as u32).map(|i| (i.wrapping_mul(0x9E37_79B1) >> 19) as u8);
@@ -89,7 +89,8 @@ const SHOOTS: [Shoot; 4] = [
 struct Saved {
     /// The pictures as the Y4M has them.
     pictures: Vec<Vec<u8>>,
-    lost: Vec<(Found, Refusal)>,
+    /// Why a part of the take was refused.
+    lost: Vec<Refusal>,
 }
 
 /// The command.
@@ -134,7 +135,7 @@ pub fn run(folder: &Path) -> Result<Outcome> {
                 1 => gone.start().to_string(),
                 _ => format!("{} to {}", gone.start(), gone.end()),
             };
-            let why = lost.first().map_or(String::new(), |(_, refusal)| refusal.to_string());
+            let why = lost.first().map_or(String::new(), Refusal::to_string);
             let share = |number: usize, all: usize| format!("{number} of {all}");
             let saved = share(pictures.len(), PICTURES);
             text.line(line(&name, &what, &saved, &numbers, &why, &share(equal, pictures.len())))?;
@@ -222,7 +223,7 @@ fn salvage(folder: &Path, name: &str, bytes: &[u8], shape: &Sps) -> Result<Saved
     let mut lost = Vec::new();
     save(&mut window, &input.name, &mut output, RATE, &mut |found, _, _| {
         if let What::Refused(refusal) = found.what {
-            lost.push((found.clone(), refusal));
+            lost.push(refusal);
         }
     })?;
     output.finish()?;

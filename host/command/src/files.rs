@@ -93,17 +93,27 @@ impl Output {
                 return Error::sentence(format!("{name} is the input and the output at once"));
             }
         }
-        let mut unfinished = OsString::from(path);
-        unfinished.push(format!(".{}.part", process::id()));
-        let unfinished = PathBuf::from(unfinished);
-        let file = File::options().write(true).create_new(true).open(&unfinished);
-        let file = file.map_err(|error| match error.kind() {
-            io::ErrorKind::NotFound => {
-                Error::Sentence(format!("{name} can't be written: its folder isn't there"))
+        // A name that nothing has, not even what a killed run left.
+        let mut number = process::id();
+        loop {
+            let mut unfinished = OsString::from(path);
+            unfinished.push(format!(".{number}.part"));
+            match File::options().write(true).create_new(true).open(&unfinished) {
+                Ok(file) => {
+                    let names = Some((unfinished.into(), path.clone()));
+                    return Ok(Output { file, name, names });
+                }
+                Err(error) if error.kind() == io::ErrorKind::AlreadyExists => {
+                    number = number.wrapping_add(1);
+                }
+                Err(error) if error.kind() == io::ErrorKind::NotFound => {
+                    return Error::sentence(format!(
+                        "{name} can't be written: its folder isn't there"
+                    ));
+                }
+                Err(error) => return Err(failed(error)),
             }
-            _ => failed(error),
-        })?;
-        Ok(Output { file, name, names: Some((unfinished, path.clone())) })
+        }
     }
 
     pub fn write(&mut self, bytes: &[u8]) -> Result<()> {

@@ -19,13 +19,13 @@
 //!   zeros, the kept bytes are the unit. If not, refusal 12 is given exactly when one of its
 //!   patterns stands in the kept bytes or in a piece: each piece begins with the last three bytes
 //!   before it, a pattern has four at most, and three zeros count only with another byte behind
-//!   them, in a piece as in a unit. Without a pattern the kept bytes lack at most two zeros at
-//!   their end, so they are still too long for a parameter set and for a picture, and all the later
-//!   refusals (13 to 18) fall on them as on the whole unit.
+//!   them, in a piece as in a unit. Without a pattern the kept bytes end in two zeros at most, so
+//!   they are still too long for a parameter set and for a picture, and the later refusals (13 to
+//!   18) fall on them as on the whole unit.
 //! - The calls differ in their place too. A reader can't be moved, but it can be copied: `held` is
-//!   the reader as it stood when it last learned a parameter set. Each call is made by a copy of it,
-//!   with a slice in which the unread bytes begin at its place. What stands before them is never
-//!   looked at.
+//!   the reader as it stood when it last learned a parameter set. Each call is made by a copy of
+//!   it, with a slice in which the unread bytes begin at its place. What stands before them is
+//!   never looked at.
 
 use std::io::{self, Read};
 

@@ -370,6 +370,35 @@ mod tests {
         assert_eq!(pack(&[0, 0, 0, 0x10], &mut line), Err((1, 4096)));
     }
 
+    /// Files with anything changed are read or refused.
+    #[test]
+    fn any_bytes() {
+        let name = Name::of(std::path::Path::new("x.y4m"), "");
+        let mut read = [0; 2];
+        for case in 0..20_000 {
+            let mut noise = common::Noise::new(4, case);
+            let kind = noise.pick(&["mono", "mono12", "420", "420p12", "", "444"]);
+            let side = noise.pick(&["2", "4", "1", "0", "16384", "16385", "-1", "4294967296", ""]);
+            let head = format!("YUV4MPEG2 W4 H{side} F25:1 C{kind} Ip\nFRAME\n");
+            let mut file = head.into_bytes();
+            let any = noise.below(60) as usize;
+            let length = noise.pick(&[8, 12, 16, 24, 32, 48, any]);
+            file.extend(vec![noise.pick(&[1, 15, 16]); length]);
+            file.extend(b"FRAME\n");
+            file.extend(vec![1; length]);
+            for _ in 0..noise.below(3) {
+                let at = noise.below(file.len() as u64) as usize;
+                file[at] = noise.pick(&[0, b'\n', b' ', b'9', 255]);
+            }
+            let accepted = Source::open(&file[..], &name).and_then(|mut source| {
+                while source.next()?.is_some() {}
+                Ok(())
+            });
+            read[usize::from(accepted.is_ok())] += 1;
+        }
+        assert!(read.iter().all(|&times| times > 50), "{read:?}");
+    }
+
     /// The padding repeats the last sample of a row and the last row.
     #[test]
     fn padding() {
