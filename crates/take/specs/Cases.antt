@@ -1,12 +1,12 @@
 -- The worked cases of paper 01 ("Bytes to prove and bytes to run"): computed from the definitions, one table in the paper's order. Assumes nothing.
 use mathlib.Core.Path.{_≡_, refl, ap}
-use mathlib.Core.List.{[], _∷_}
+use mathlib.Core.List.{List, [], _∷_}
 use Prim.Native.Nat.{ℕ}
 use lib.IntN.{pos, negsuc}
 use Rattle.golomb.specs.Code.{ue}
 use Rattle.golomb.specs.Signed.{se}
 use Rattle.golomb.specs.Cases.{unsigned-codes, signed-codes}
-use Rattle.nal_unit.specs.Escape.{emit, zeros, escFrom, esc, esc-five, esc-two, esc-four, esc-three}
+use Rattle.nal_unit.specs.Escape.{inserts, emit, zeros, escFrom, esc, esc-five, esc-two, esc-four, esc-three}
 use Rattle.nal_unit.specs.Calls.{ended, turn, turn-end}
 use Rattle.nal_unit.specs.Walk.{meet-nil}
 use Rattle.ycbcr_image.specs.Sizes.{Sequence}
@@ -30,17 +30,18 @@ pub worked-cases : (room : ℕ → ℕ) (h : Held)
     × ((esc (0 ∷ 0 ∷ []) ≡ 0 ∷ 0 ∷ []) × (esc (0 ∷ 0 ∷ 4 ∷ []) ≡ 0 ∷ 0 ∷ 4 ∷ []))
     × (esc (0 ∷ 0 ∷ 3 ∷ []) ≡ 0 ∷ 0 ∷ 3 ∷ 3 ∷ [])
     × (turn (judge room) h [] .say ≡ ended)
-unfolding spsUnit escFrom emit zeros
+unfolding spsUnit escFrom emit zeros inserts
 worked-cases room h =
     let s = sps-cases in
-    ( unsigned-codes
-    , signed-codes
-    , rw (s .0) refl
-    , rw (s .1) refl
-    , rw (s .2) refl
-    , rw (s .3) refl
-    , esc-five
-    , (esc-two, esc-four)
-    , esc-three
-    , rw (turn-end (judge room) h [] meet-nil) refl
+    let unit : List ℕ → List ℕ = λ p. 0x67 ∷ esc p in (
+      unsigned-codes,
+      signed-codes,
+      ap unit (s .0),
+      ap unit (s .1),
+      ap unit (s .2),
+      ap unit (s .3),
+      esc-five,
+      (esc-two, esc-four),
+      esc-three,
+      rw (turn-end (judge room) h [] meet-nil) refl,
     )

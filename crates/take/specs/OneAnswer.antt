@@ -24,8 +24,8 @@ pub one-answer :
     × ((s : Session) (p : Shot) (d : List ℕ) (r t : Encoded) (o u : List ℕ) → r ≡ nextOf s p d → o ≡ nextOut s p d → t ≡ nextOf s p d → u ≡ nextOut s p d → (r ≡ t) × (o ≡ u))
     × ((s : List ℕ) (b : Reader) (y cb cr : List ℕ) (r t : Step) (y′ cb′ cr′ y″ cb″ cr″ : List ℕ) → Reads s b y cb cr r y′ cb′ cr′ → Reads s b y cb cr t y″ cb″ cr″
     → (r ≡ t) × ((y′ ≡ y″) × ((cb′ ≡ cb″) × (cr′ ≡ cr″))))
-one-answer =
-    ( λ p d r t o u a b c e. (one-value a c, one-value b e)
-    , λ s p d r t o u a b c e. (one-value a c, one-value b e)
-    , λ s b y cb cr r t y′ cb′ cr′ y″ cb″ cr″ f g. reads-one f g
-    )
+one-answer = (
+  λ p d r t o u a b c e. (one-value a c, one-value b e),
+  λ s p d r t o u a b c e. (one-value a c, one-value b e),
+  λ s b y cb cr r t y′ cb′ cr′ y″ cb″ cr″ f g. reads-one f g,
+)
