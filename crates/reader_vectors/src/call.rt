@@ -2,7 +2,9 @@
 use crate::count::Tally;
 use crate::count::counted;
 use crate::state::Told;
+use crate::state::at;
 use crate::state::in_numbers;
+use crate::state::refused;
 use crate::state::same_sets;
 use crate::state::same_told;
 use reader::Reader;
@@ -201,7 +203,7 @@ pub fn refuse(
         name,
         take,
         reader,
-        crate::state::refused(number, offset),
-        crate::state::at(next, sets),
+        refused(number, offset),
+        at(next, sets),
     )
 }

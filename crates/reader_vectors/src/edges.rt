@@ -32,9 +32,9 @@ use ycbcr_image::Session;
 
 // Has the end answered at `place`, which stays, where no set is held and where both are.
 fn ends(t: Tally, name: &[u8], take: &[u8], place: usize) -> Tally {
-    let none = at(place, nothing());
+    let bare = at(place, nothing());
     let held = at(place, both(mono8(16, 16)));
-    let t = once(t, name, take, none, end(), none);
+    let t = once(t, name, take, bare, end(), bare);
     once(t, name, take, held, end(), held)
 }
 
@@ -204,7 +204,7 @@ pub fn impossible() -> Tally {
 }
 
 // Has these lengths told of the planes, and 0 of a plane that there is not.
-pub fn lengths_are(t: Tally, name: &[u8], h: HeldSets, y: usize, cb: usize, cr: usize) -> Tally {
+fn lengths_are(t: Tally, name: &[u8], h: HeldSets, y: usize, cb: usize, cr: usize) -> Tally {
     let t = counted(t, name, b"the length of Y", reader::plane_len(h, 0) == y);
     let t = counted(t, name, b"the length of Cb", reader::plane_len(h, 1) == cb);
     let t = counted(t, name, b"the length of Cr", reader::plane_len(h, 2) == cr);

@@ -152,7 +152,7 @@ fn colour_planes(t: Tally, take: &[u8]) -> Tally {
     c.tally
 }
 
-// The same in mono, which has no use for the others. Of 32 columns 17 are visible, and so is none of the last bytes.
+// The same in mono, which has no use for the other planes. Of its 32 columns 17 are visible.
 fn mono_planes(t: Tally, take: &[u8]) -> Tally {
     let y = [0x10u8; 272];
     let sets = both(mono8(17, 16));
