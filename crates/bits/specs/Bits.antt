@@ -9,15 +9,15 @@ use mathlib.Core.List.{List, [], _∷_, _++_, append-assoc}
 use mathlib.Core.Bool.{Bool, true, false}
 use Prim.Native.Nat.{ℕ, zero, suc, _+_, _-_, _*_, _/_, _%_, _^_, _≤_, _<_, min}
 use native.Mathlib.Nat.{add-zero, mod-lt, mod-one, mod-eq-of-lt, pow-suc, mul-le-mul-right, zero-add, suc-add, div-eq-of-lt, le-of-suc-le-suc}
-use native.Mathlib.Numerals.{add-one, one-add}
+use native.Mathlib.Numerals.{one-add}
 use native.Mathlib.Omega.{arith}
 use lib.Dec.{leb}
 use borrow.Author.Tests.{le-leb, lt-leb, leb-true, leb-false}
 use lib.ListN.{length, take, drop, getD, set, replicate, length-append, length-take, length-drop, drop-of-length-le, List·getD-append}
-use lib.Seq.{getD-append-add, getD-take, getD-drop, set-append-left, drop-drop, take-all, take-nil, take-append-add}
+use lib.Seq.{getD-append-add, getD-take, set-append-left, take-all, take-nil, take-append-add}
 use lib.Pow.{pow-mono, mod-pow-add, mod-mod-pow, field, high, low}
 use Rattle.lists.specs.Every.{Below, below-nil, below-cons, below-head, below-tail, below-append, below-take, below-drop}
-use Rattle.lists.specs.Fill.{splice, splice-length, splice-none, splice-splice}
+use Rattle.lists.specs.Fill.{splice, splice-none}
 use Rattle.lists.specs.Part.{set-append-add, drop-step, part, part-drop, part-take, part-rest}
 use Rattle.lists.specs.Test.{either}
 
@@ -258,18 +258,9 @@ pub from-below : (s : List ℕ) (place : ℕ) → Below 2 (bitsFrom s place)
 unfolding bitsFrom
 from-below s place = below-drop place (take (bitCount s) (bitsOf s)) (below-take (bitCount s) (bitsOf s) (bits-below s))
 
-pub from-at : (s : List ℕ) (place i : ℕ) → place + i < bitCount s → getD (bitsFrom s place) i 0 ≡ getD (bitsOf s) (place + i) 0
-unfolding bitsFrom
-from-at s place i h = rw (getD-drop place (take (bitCount s) (bitsOf s)) i 0) (getD-take (bitCount s) (bitsOf s) (place + i) 0 h)
-
 pub from-part : (s : List ℕ) (place i n : ℕ) → place + i + n ≤ bitCount s → part (bitsFrom s place) i n ≡ part (bitsOf s) (place + i) n
 unfolding bitsFrom
 from-part s place i n h = rw (part-drop (take (bitCount s) (bitsOf s)) place i n) (part-take (bitsOf s) (bitCount s) (place + i) n h)
-
--- the bits from a later place on
-pub from-drop : (s : List ℕ) (place i : ℕ) → drop i (bitsFrom s place) ≡ bitsFrom s (place + i)
-unfolding bitsFrom
-from-drop s place i = drop-drop i place (take (bitCount s) (bitsOf s))
 
 -- the bit at a place, then those behind it
 pub from-step : (s : List ℕ) (place : ℕ) → place < bitCount s → bitsFrom s place ≡ getD (bitsOf s) place 0 ∷ bitsFrom s (place + 1)
@@ -306,17 +297,3 @@ pub record BitsPut (s : List ℕ) (place : ℕ) (code t : List ℕ) (p : ℕ) : 
 -- nothing written
 pub put-none : (s : List ℕ) (place : ℕ) → BitsPut s place [] s place
 put-none s place = record { behind = sym (add-zero place); bits = sym (splice-none (bitsOf s) place) }
-
--- a code, and another behind it
-pub put-more : {s t v : List ℕ} {place p q : ℕ} (a b : List ℕ) → place + length (a ++ b) ≤ bitCount s → BitsPut s place a t p → BitsPut t p b v q → BitsPut s place (a ++ b) v q
-put-more {s} {t} {v} {place} {p} {q} a b h x y =
-    let l = length-append a b in
-    let r : place + length a + length b ≤ length (bitsOf s) = omega (arith, count-length s, bits-length s) in
-    let e : bitsOf v ≡ splice (splice (bitsOf s) place a) (place + length a) b = y .bits ∙ rw (x .bits, x .behind) refl in
-    record { behind = omega arith; bits = e ∙ splice-splice (bitsOf s) place a b r }
-
--- the buffer keeps its length, and so its count of bits
-pub put-length : {s t : List ℕ} {place p : ℕ} (a : List ℕ) → place + length a ≤ bitCount s → BitsPut s place a t p → length t ≡ length s
-put-length {s} {t} {place} {p} a h x =
-    let r : place + length a ≤ length (bitsOf s) = omega (arith, count-length s, bits-length s) in
-    omega (arith, ap length (x .bits), splice-length (bitsOf s) place a r, bits-length s, bits-length t)

@@ -2,7 +2,6 @@
 // counted from the buffer's first bit. What is public here is a leaf for proved callers; codes with refusals stand in golomb.
 ghost use mathlib.Core.Path.{_≡_};
 ghost use Prim.Native.Nat.{_+_, _*_, _≤_, _<_};
-ghost use lib.Dec.{leb};
 ghost use lib.ListN.{length, getD, set};
 ghost use Rattle.lists.specs.Part.{part};
 ghost use Rattle.bits.specs.Bits.{lowBits, bitsOf, value, bitCount, roomFor, BitsPut};

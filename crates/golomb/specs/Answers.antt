@@ -13,9 +13,8 @@ use Rattle.lists.specs.Fill.{splice}
 use Rattle.lists.specs.Part.{part}
 use Rattle.bits.specs.Bits.{bitsOf, bitsFrom, bitCount, value, from-below}
 use Rattle.bits.specs.Pack.{packed}
-use Rattle.golomb.specs.Code.{ue}
 use Rattle.golomb.specs.Read.{whole, codeNum, codeBits, ue-read}
-use Rattle.golomb.specs.Signed.{se, unmapped}
+use Rattle.golomb.specs.Signed.{unmapped}
 use Rattle.golomb.specs.declared.CodeWritten.{CodeWritten}
 use Rattle.golomb.specs.declared.CodeWritten.the-variants.{Behind, NoCode, NoRoom}
 use Rattle.golomb.specs.declared.UeRead.{UeRead}

@@ -10,14 +10,13 @@
 use mathlib.Core.Path.{_≡_, refl, sym, ap, _∙_}
 use mathlib.Core.List.{List, [], _∷_, _++_, append-assoc, append-nil}
 use mathlib.Core.Bool.{Bool, true, false, cond, _&&_, and-eq-true-iff}
-use Prim.Native.Nat.{ℕ, zero, suc, _+_, _-_, _*_, _/_, _%_, _^_, _≤_, _<_}
+use Prim.Native.Nat.{ℕ, zero, suc, _+_, _-_, _*_, _%_, _^_, _≤_, _<_}
 use native.Mathlib.Nat.{pow-suc, suc-add}
 use native.Mathlib.Numerals.{add-one}
 use native.Mathlib.Omega.{arith}
 use lib.Dec.{leb, eqb, eqb·suc-zero}
-use lib.ListN.{length, take, drop, getD, replicate, length-append, length-replicate, length-drop, length-take, take-append-drop}
+use lib.ListN.{length, take, drop, replicate, length-append, length-replicate, length-take, take-append-drop}
 use lib.Pow.{pow-mono, pow-pos, split}
-use lib.Seq.{take-at, drop-at, drop-drop, take-add}
 use borrow.Author.Tests.{le-leb, lt-leb, leb-true, ne-eqb}
 use Rattle.lists.specs.Every.{Below, below-head, below-tail, below-take, below-part}
 use Rattle.lists.specs.Part.{part, part-length, part-between, part-rest}

@@ -5,12 +5,12 @@
 use mathlib.Core.Path.{_≡_, refl, ap}
 use mathlib.Core.List.{List, [], _∷_}
 use mathlib.Core.Bool.{Bool, true, false, _&&_, and-eq-true-iff}
-use Prim.Native.Nat.{ℕ, _+_, _<_}
+use Prim.Native.Nat.{ℕ}
 use native.Mathlib.Omega.{arith}
 use lib.Dec.{eqb}
-use lib.ListN.{length, take, drop, getD}
+use lib.ListN.{length, take, drop}
 use borrow.Author.Tests.{eqb-true, eq-eqb}
-use Rattle.lists.specs.Part.{part, drop-step}
+use Rattle.lists.specs.Part.{part}
 
 -- whether xs begins with vs
 unfoldable pub begins : List ℕ → List ℕ → Bool
@@ -21,16 +21,6 @@ begins (v ∷ vs) (x ∷ xs) = eqb x v && begins vs xs
 -- whether vs stands in s from the place p on
 unfoldable pub stands : List ℕ → List ℕ → ℕ → Bool
 stands vs s p = begins vs (drop p s)
-
--- the empty list stands everywhere
-pub stands-none : (s : List ℕ) (p : ℕ) → stands [] s p ≡ true
-unfolding stands begins
-stands-none s p = refl
-
--- the first element, then the others
-pub stands-more : (v : ℕ) (vs s : List ℕ) (p : ℕ) → p < length s → stands (v ∷ vs) s p ≡ (eqb (getD s p 0) v && stands vs s (p + 1))
-unfolding stands begins
-stands-more v vs s p h = rw (drop-step s p h) refl
 
 -- what stands is the part there
 pub stands-part : (vs s : List ℕ) (p : ℕ) → stands vs s p ≡ true → part s p (length vs) ≡ vs

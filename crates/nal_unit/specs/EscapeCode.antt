@@ -568,10 +568,6 @@ pub esc-other : (z x : ℕ) (xs : List ℕ) → 3 < x → escFrom z (x ∷ xs) �
 unfolding escFrom emit zeros
 esc-other z x xs h = rw (inserts-high z x h, ne-eqb x 0 (λ e. omega arith)) refl
 
-pub esc-head : (z : ℕ) (xs : List ℕ) → escFrom z (13 ∷ 0 ∷ xs) ≡ 13 ∷ 0 ∷ escFrom 1 xs
-unfolding escFrom emit zeros inserts
-esc-head z xs = esc-other z 13 (0 ∷ xs) (omega arith)
-
 pub esc-stop : (z : ℕ) → escFrom z (128 ∷ []) ≡ 128 ∷ []
 esc-stop z = esc-other z 128 [] (omega arith) ∙ ap (λ (l : List ℕ). 128 ∷ l) (esc-nil 0)
 

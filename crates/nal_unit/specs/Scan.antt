@@ -1,14 +1,13 @@
 -- Start codes, zeros and faults by the places of a slice, as a loop moves: one byte on, or one byte back. Places are counted as code counts, i + 1.
---     code-at, code-short                a start code at the place i, by three bytes; none where fewer are left
+--     code-at                            a start code at the place i, by three bytes
 --     next-at, next-step, next-short     the next start code from the place i on: here; one byte on; the end, where fewer than three bytes are left
---     blank-step                         whether the first bytes are zero, one more
 --     trim-none, trim-zero, trim-last    trailing zeros, taken off one by one from the end
---     fault-at, fault-short, fault-step  a fault at the place i, by four bytes; none where fewer than three are left; one byte on
+--     fault-at                           a fault at the place i, by four bytes
 --     meet-at                            the unit that is met from the place p on, by the place o where it begins
 -- Assumes nothing.
-use mathlib.Core.Path.{_≡_, refl, sym, ap, _∙_}
+use mathlib.Core.Path.{_≡_, refl, ap, _∙_}
 use mathlib.Core.List.{List, [], _∷_, _++_, append-nil}
-use mathlib.Core.Bool.{true, false, _&&_, _||_, and-true, and-assoc}
+use mathlib.Core.Bool.{true, false, _&&_, _||_}
 use Prim.Native.Nat.{ℕ, _+_, _≤_, _<_}
 use native.Mathlib.Numerals.{add-one}
 use native.Mathlib.Omega.{arith}
@@ -18,7 +17,7 @@ use lib.Seq.{take-suc, drop-drop}
 use Rattle.lists.specs.Part.{drop-step}
 use Rattle.lists.specs.Test.{either}
 use Rattle.nal_unit.specs.Bytes.{lastOf, last-append, drop-three}
-use Rattle.nal_unit.specs.Unescape.{over3, faultHere, fault, fault-cons}
+use Rattle.nal_unit.specs.Unescape.{over3, faultHere}
 use Rattle.nal_unit.specs.StartCode.{startCode, code, next, code-is, next-code, next-past, next-there}
 use Rattle.nal_unit.specs.Walk.{blank, lay, trim, unit, meet, trim-join, Calm, meet-unit}
 
@@ -33,9 +32,6 @@ few (a ∷ []) h = (refl, refl)
 few (a ∷ b ∷ []) h = (refl, refl)
 few (a ∷ b ∷ c ∷ t) h = absurd (omega arith)
 
-pub code-short : (s : List ℕ) (i : ℕ) → length s < i + 3 → code (drop i s) ≡ false
-code-short s i h = few (drop i s) (omega (arith, length-drop i s)) .0
-
 pub next-at : (s : List ℕ) (i : ℕ) → code (drop i s) ≡ true → i + next (drop i s) ≡ i
 next-at s i e = omega (arith, next-code (drop i s) e)
 
@@ -46,15 +42,6 @@ next-step s i h e =
 
 pub next-short : (s : List ℕ) (i : ℕ) → i ≤ length s → length s < i + 3 → i + next (drop i s) ≡ length s
 next-short s i l h = omega (arith, length-drop i s, few (drop i s) (omega (arith, length-drop i s)) .1)
-
--- the zeros before, and the byte itself
-pub blank-step : (s : List ℕ) (n : ℕ) → n < length s → blank (take (n + 1) s) ≡ blank (take n s) && eqb (getD s n 0) 0
-unfolding blank
-blank-step s n h = rw (add-one n, take-suc s n 0 h) (last (take n s) (getD s n 0))
-  where
-    last : (l : List ℕ) (x : ℕ) → blank (l ++ (x ∷ [])) ≡ blank l && eqb x 0
-    last [] x = and-true (eqb x 0)
-    last (y ∷ l) x = rw (last l x) (sym (and-assoc (eqb y 0) (blank l) (eqb x 0)))
 
 pub trim-none : (s : List ℕ) → trim (take 0 s) ≡ []
 unfolding trim
@@ -85,19 +72,6 @@ pub fault-at : (s : List ℕ) (i : ℕ) → i + 3 ≤ length s
     → faultHere (drop i s) ≡ eqb (getD s i 0) 0 && (eqb (getD s (i + 1) 0) 0 && (leb (getD s (i + 2) 0) 2 || (eqb (getD s (i + 2) 0) 3 && leb 4 (getD s (i + 3) 0))))
 unfolding faultHere
 fault-at s i h = rw (drop-three s i h, over3-at s (i + 3)) refl
-
-pub fault-short : (s : List ℕ) (i : ℕ) → length s < i + 3 → faultHere (drop i s) ≡ false
-unfolding faultHere
-fault-short s i h = short (drop i s) (omega (arith, length-drop i s))
-  where
-    short : (l : List ℕ) → length l < 3 → faultHere l ≡ false
-    short [] h = refl
-    short (a ∷ []) h = refl
-    short (a ∷ b ∷ []) h = refl
-    short (a ∷ b ∷ c ∷ t) h = absurd (omega arith)
-
-pub fault-step : (s : List ℕ) (i : ℕ) → i < length s → fault (drop i s) ≡ faultHere (drop i s) || fault (drop (i + 1) s)
-fault-step s i h = rw (drop-step s i h) (fault-cons (getD s i 0) (drop (i + 1) s))
 
 pub meet-at : (s : List ℕ) (p o : ℕ) → Calm (drop p s) → p + next (drop p s) < length s → p + next (drop p s) + 3 ≡ o
     → meet (drop p s) ≡ unit (next (drop p s) + 3) (trim (take (next (drop o s)) (drop o s))) (next (drop p s) + 3 + next (drop o s))

@@ -14,7 +14,7 @@ use Prim.Native.Nat.{ℕ, zero, suc, _+_, _-_, _*_, _/_, _≤_, _<_}
 use native.Mathlib.Nat.{add-zero, add-assoc, mod-eq-of-lt}
 use native.Mathlib.Omega.{arith}
 use lib.Dec.{leb, ltb, eqb, leb·suc-suc}
-use lib.Bits.{bitOr, bitXor, bitAnd, or-add-and, xor-add-and, xor-self, and-le-l, and-le-r, and-high}
+use lib.Bits.{bitOr, bitXor, bitAnd, xor-add-and, xor-self, and-le-l, and-le-r, and-high}
 use lib.ListN.{length, take, drop, getD, length-take, length-drop, drop-of-length-le, take-append-drop}
 use lib.Seq.{length-take-le, take-take, take-add, drop-drop, getD-take, getD-drop}
 use borrow.Author.Tests.{lt-ltb, eqb-true, eqb-false, eq-eqb, ne-eqb, le-leb, lt-leb, leb-true, leb-false}
@@ -22,7 +22,7 @@ use Rattle.lists.specs.Part.{part, drop-step}
 use Rattle.lists.specs.Test.{either}
 use Rattle.nal_unit.specs.ListsCode.{or-zero}
 use Rattle.nal_unit.specs.Units.{code-fault}
-use Rattle.nal_unit.specs.StartCode.{code, next, code-is, code-first, next-le, next-past, next-there}
+use Rattle.nal_unit.specs.StartCode.{code, next, code-first, next-le, next-past, next-there}
 use Rattle.nal_unit.specs.Scan.{code-at, next-step, trim-zero, trim-last, fault-at}
 use Rattle.nal_unit.specs.Unescape.{over3, faultHere, fault, fault-nil, fault-past}
 use Rattle.nal_unit.specs.Walk.{blank, trim, trimmed}

@@ -16,7 +16,7 @@ use lib.Dec.{eqb}
 use lib.ListN.{length, take, drop, getD, set, replicate, length-drop, length-replicate}
 use lib.Seq.{take-add, take-at, drop-at, drop-drop, length-take-le, getD-drop}
 use borrow.Author.Tests.{eqb-true, eq-eqb}
-use Rattle.lists.specs.Fill.{splice, splice-none, splice-length, set-splice, splice-splice}
+use Rattle.lists.specs.Fill.{splice, splice-none, set-splice, splice-splice}
 use Rattle.lists.specs.Part.{part, part-length}
 use Rattle.nal_unit.specs.Kept.{kept, insCount, kept-un, kept-append, kept-length, kept-calm, calm-part, calm-from}
 use Rattle.nal_unit.specs.Unescape.{un}
@@ -69,12 +69,6 @@ pass-zeros p e m n i h l g = pass-stretch p e m n (replicate n 0) i h (g .1) l (
 pub record Took (s : List ℕ) (p e n : ℕ) (d : List ℕ) (a : ℕ) (d′ : List ℕ) (r : ℕ) : Type 0 where
   pub bytes : d′ ≡ splice d a (take n (kept s p e))
   pub place : Passed s p e n r
-
--- the buffer keeps its length
-pub took-length : {s : List ℕ} {p e n : ℕ} {d : List ℕ} {a : ℕ} {d′ : List ℕ} {r : ℕ} → Took s p e n d a d′ r → n ≤ length (kept s p e) → a + n ≤ length d
-    → length d′ ≡ length d
-took-length {s} {p} {e} {n} {d} {a} g h l =
-    ap length (g .bytes) ∙ splice-length d a (take n (kept s p e)) (omega (arith, length-take-le n (kept s p e) h))
 
 -- nothing is taken
 pub took-none : (s : List ℕ) (p e : ℕ) (d : List ℕ) (a : ℕ) → p ≤ e → Took s p e 0 d a d p

@@ -145,10 +145,6 @@ pub fault-nil : fault [] ≡ false
 unfolding fault
 fault-nil = refl
 
-pub fault-cons : (x : ℕ) (t : List ℕ) → fault (x ∷ t) ≡ faultHere (x ∷ t) || fault t
-unfolding fault
-fault-cons x t = refl
-
 -- where no fault stands at the front, what is behind the first byte decides
 pub fault-past : (x : ℕ) (t : List ℕ) → faultHere (x ∷ t) ≡ false → fault (x ∷ t) ≡ fault t
 unfolding fault

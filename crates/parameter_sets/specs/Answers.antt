@@ -8,7 +8,6 @@ use mathlib.Core.Option.{Option, none, some}
 use Prim.Native.Nat.{ℕ, _-_, _≤_}
 use native.Mathlib.Omega.{arith}
 use lib.ListN.{length, take, drop, replicate, length-append, take-append-drop}
-use Rattle.ycbcr_image.specs.declared.Session.{Session}
 use Rattle.ycbcr_image.specs.Sizes.{Sequence, sequenceOf, session-one}
 use Rattle.parameter_sets.specs.declared.Payload.{Payload}
 use Rattle.parameter_sets.specs.declared.SpsRead.{SpsRead}

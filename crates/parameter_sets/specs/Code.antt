@@ -2,7 +2,7 @@
 --     headFields, sizeFields, sps-pieces   the sequence parameter set in the pieces that are written by a function each
 --     Putting                              pieces being written one behind the other into 32 bytes; put-room, put-next, put-last
 --     packed-in                            bits written into 32 bytes of zeros are packed there
---     sps-bytes, sps-length, sps-last      a payload is bytes, 7 to 32 of them, the last of them not 0; the same of the picture parameter set
+--     sps-length, sps-last                 a payload has 7 to 32 bytes, the last of them not 0
 --     Found, read-none ..                  reading by tests
 -- Assumes nothing.
 use mathlib.Core.Path.{_≡_, refl, sym, ap, _∙_}
@@ -18,7 +18,7 @@ use lib.Seq.{take-at, drop-at}
 use borrow.Author.Tests.{eq-eqb, ne-eqb}
 use Rattle.lists.specs.Fill.{splice, Writing, start-at, puts, done-at}
 use Rattle.lists.specs.Test.{same}
-use Rattle.lists.specs.Every.{Below, below-nil, below-cons, below-append, below-zeros}
+use Rattle.lists.specs.Every.{Below, below-append, below-zeros}
 use Rattle.bits.specs.Bits.{lowBits, bitsOf, bitCount, BitsPut, bits-length, bits-append, count-length, low-length}
 use Rattle.bits.specs.Pack.{packed, padding, packed-length, bits-packed, bits-same}
 use Rattle.golomb.specs.Code.{digitsIn, numBits, ue, ue-long}
@@ -31,7 +31,7 @@ use Rattle.ycbcr_image.specs.declared.BitDepth.the-variants.{Depth8, Depth12}
 use Rattle.ycbcr_image.specs.Form.{Form, formOf, depthOf, mono, subWidthC, subHeightC, cropUnitX, cropUnitY}
 use Rattle.ycbcr_image.specs.declared.Session.{Session}
 use Rattle.ycbcr_image.specs.Refusals.{accepted}
-use Rattle.ycbcr_image.specs.Accepted.{Fine, fine}
+use Rattle.ycbcr_image.specs.Accepted.{fine}
 use Rattle.ycbcr_image.specs.Sizes.{Sequence, sequenceOf, divCeil, nextMultiple, picWidthInMbs, frameHeightInMbs}
 use Rattle.parameter_sets.specs.declared.FrameCropping.{FrameCropping}
 use Rattle.parameter_sets.specs.declared.SizeCodes.{SizeCodes}
@@ -220,11 +220,6 @@ sps-long level q =
       low-length 16 0x9B01,
     )
 
--- the payload is bytes
-pub sps-bytes : (level : ℕ) (q : Sequence) → Below 256 (spsPayload level q)
-unfolding spsPayload
-sps-bytes level q = packed-below (spsBits level q) (sps-below level q)
-
 -- 7 to 32 of them
 pub sps-length : (level : ℕ) (s : Session) → accepted (sequenceOf s) ≡ true → (7 ≤ length (spsPayload level (sequenceOf s))) × (length (spsPayload level (sequenceOf s)) ≤ 32)
 unfolding spsPayload
@@ -242,13 +237,6 @@ sps-last level q =
     let e : spsBits level q ≡ a ++ spsTail = sps-pieces level q ∙ simp append-assoc in
     let one : getD (spsBits level q) (length (spsBits level q) - 1) 0 ≡ 1 = rw e (last-append a spsTail (omega (arith, ap length tail-is, low-length 16 0x9B01)) ∙ tail-last) in
     packed-last (spsBits level q) (sps-below level q) (omega (arith, sps-long level q)) one
-
--- the same of the picture parameter set
-pub pps-bytes : Below 256 ppsPayload
-pps-bytes = rw pps-is (below-cons (omega arith) (below-cons (omega arith) (below-cons (omega arith) (below-nil (omega arith)))))
-
-pub pps-length : length ppsPayload ≡ 3
-pps-length = rw pps-is refl
 
 pub pps-last : 0 < getD ppsPayload (length ppsPayload - 1) 0
 pps-last = rw pps-is (omega arith)

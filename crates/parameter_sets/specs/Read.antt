@@ -11,7 +11,7 @@ use mathlib.Core.Option.{Option, none, some}
 use Prim.Native.Nat.{ℕ, _+_, _-_, _*_, _/_, _%_, _^_, _≤_, _<_}
 use native.Mathlib.Nat.{div-add-mod'}
 use native.Mathlib.Omega.{arith}
-use lib.Dec.{T, eqb}
+use lib.Dec.{eqb}
 use lib.ListN.{length, take, getD, length-append, length-take}
 use lib.Seq.{getD-take, take-length}
 use borrow.Author.Tests.{eqb-true, not-false}
@@ -21,7 +21,7 @@ use Rattle.golomb.specs.declared.UeRead.the-variants.{Number}
 use Rattle.golomb.specs.Code.{digitsIn, numBits, ue}
 use Rattle.golomb.specs.Laws.{ue-grow}
 use Rattle.golomb.specs.Answers.{readUe, ueNumber, uePlace}
-use Rattle.bits.specs.Pack.{packed, padding, packed-byte, packed-length, bits-packed}
+use Rattle.bits.specs.Pack.{padding, packed-byte, packed-length, bits-packed}
 use Rattle.ycbcr_image.specs.declared.BitDepth.{BitDepth}
 use Rattle.ycbcr_image.specs.declared.BitDepth.the-variants.{Depth8, Depth12}
 use Rattle.ycbcr_image.specs.declared.Kind.{Kind}

@@ -1,15 +1,15 @@
 -- The sequence parameter set taken apart at the codes that tell sizes: what stands before them, and how long everything is. Assumes nothing.
-use mathlib.Core.Path.{_≡_, refl, sym, ap, _∙_}
+use mathlib.Core.Path.{_≡_, refl, _∙_}
 use mathlib.Core.List.{List, [], _∷_, _++_, append-assoc}
 use mathlib.Core.Bool.{Bool, true, false, cond}
-use Prim.Native.Nat.{ℕ, _+_, _-_, _*_, _/_, _^_, _≤_, _<_}
+use Prim.Native.Nat.{ℕ, _+_, _-_, _*_, _^_, _≤_, _<_}
 use native.Mathlib.Nat.{div-le-self}
 use native.Mathlib.Omega.{arith}
-use lib.ListN.{length, drop, getD, length-append}
+use lib.ListN.{length, getD, length-append}
 use lib.Seq.{drop-at, getD-at}
 use Rattle.lists.specs.Every.{Below, below-nil, below-append}
-use Rattle.bits.specs.Bits.{lowBits, bitsOf, low-length, low-below, from-small}
-use Rattle.golomb.specs.Code.{digitsIn, numBits, ue, ue-length, ue-below, num-bits, num-most}
+use Rattle.bits.specs.Bits.{lowBits, bitsOf, low-below, from-small}
+use Rattle.golomb.specs.Code.{digitsIn, numBits, ue, ue-length, ue-below, num-most}
 use Rattle.golomb.specs.Answers.{readUe}
 use Rattle.golomb.specs.Laws.{ue-stands}
 use Rattle.golomb.specs.declared.UeRead.the-variants.{Number}
@@ -20,7 +20,7 @@ use Rattle.ycbcr_image.specs.declared.Kind.the-variants.{Mono, Colour}
 use Rattle.ycbcr_image.specs.Accepted.{Fine}
 use Rattle.ycbcr_image.specs.Form.{Form, formOf, mono, cropUnitX, cropUnitY}
 use Rattle.ycbcr_image.specs.Sizes.{Sequence, picWidthInMbs, frameHeightInMbs}
-use Rattle.parameter_sets.specs.Sps.{u, profileIdc, chromaFields, cropRight, cropBottom, cropped, cropFields, vuiFields, spsBits, spsPayload}
+use Rattle.parameter_sets.specs.Sps.{u, profileIdc, chromaFields, cropRight, cropBottom, cropped, cropFields, vuiFields, spsBits}
 
 -- the fields before pic_width_in_mbs_minus1
 unfoldable pub spsHead : ℕ → Form → List ℕ

@@ -19,7 +19,7 @@ use Rattle.lists.specs.Fill.{splice, splice-length, splice-at, splice-before, s
 use Rattle.lists.specs.Part.{part, part-at, part-none, part-length}
 use Rattle.lists.specs.Test.{either}
 use Rattle.slice.specs.Digits.{high-below, low-below}
-use Rattle.slice.specs.Cat.{cat, cat-length, cat-tab, Even, rowsOf, rows-at, rows-even, tab, tab-at}
+use Rattle.slice.specs.Cat.{cat, cat-length, cat-tab, Even, rowsOf, rows-at, rows-even, tab-at}
 use Rattle.slice.specs.Grid.{Grid, spot, place, posOf, tightOf, tight-length}
 use Rattle.slice.specs.Blocks.{Fit, pos-row, place-block}
 use Rattle.slice.specs.Filling.{Filled}

@@ -20,7 +20,6 @@ use Rattle.parameter_sets.specs.Pps.{ppsPayload}
 use Rattle.parameter_sets.specs.Read.{readSps}
 use Rattle.slice.specs.Picture.{pictureLength}
 use Rattle.ycbcr_image.specs.Sizes.{Sequence}
-use Rattle.ycbcr_image.specs.Refusals.{sessionBad}
 use Rattle.reader.specs.Judge.{Held, nothing, Word, sps, pps, picture, refused, possible, counted, keep, spsVerdict, ppsVerdict, short, samplesOf, formless, pictureVerdict, heldVerdict, unitVerdict, judge}
 
 abbrev pub isSet : Word → Bool

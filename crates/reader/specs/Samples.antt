@@ -13,7 +13,7 @@ use mathlib.Core.List.{List, _++_}
 use Prim.Native.Nat.{ℕ, zero, suc, _+_, _-_, _*_, _/_, _%_, _≤_, _<_, min}
 use lib.Arith.{digits-lt}
 use mathlib.Core.Bool.{true, false}
-use native.Mathlib.Nat.{add-zero, zero-mul, add-mul, mul-le-mul, mul-le-mul-left, mul-le-mul-right, div-add-mod'}
+use native.Mathlib.Nat.{zero-mul, add-mul, mul-le-mul, mul-le-mul-left, mul-le-mul-right, div-add-mod'}
 use native.Mathlib.Omega.{arith}
 use mathlib.Core.Logic.{inl, inr}
 use lib.Dec.{eqb}

@@ -1,11 +1,11 @@
 -- Which bytes of a payload are those of a plane's visible part, and how that part is filled macroblock by macroblock.
---     row-in, row-out        a row of a block, visible or not
+--     row-in                 a row of a block that is visible
 --     block-in, rows-out     the rows of a block, visible or not
 --     block-out              what is not of the plane's block: other planes, heads
 --     fill-first, fill-block, fill-last   a reader's loop over the macroblocks: before it, a turn, behind it
 -- Assumes nothing.
 use mathlib.Core.Path.{_≡_, refl, sym, ap, _∙_}
-use mathlib.Core.List.{List, _∷_, _++_}
+use mathlib.Core.List.{List, _++_}
 use Prim.Native.Nat.{ℕ, _+_, _-_, _*_, _/_, _%_, _≤_, _<_, min}
 use native.Mathlib.Nat.{mul-le-mul-right, div-add-mod', mod-lt, add-assoc, lt-of-mul-lt-mul-right}
 use native.Mathlib.Omega.{arith}
@@ -13,8 +13,7 @@ use lib.ListN.{length, drop}
 use lib.Arith.{digits-lt, digits-div, digits-mod}
 use Rattle.lists.specs.Test.{either}
 use Rattle.slice.specs.Digits.{high-below, low-below, same-digit}
-use Rattle.slice.specs.Layout.{Plane, size-append, size-more}
-use Rattle.slice.specs.Grid.{Grid, spot, place, posOf, tightOf, gridOf}
+use Rattle.slice.specs.Grid.{Grid, spot, place, posOf, tightOf}
 use Rattle.slice.specs.Filling.{Filled, Clear, Takes, RowsAt, Fills, fill-start, fill-skip, fill-done}
 
 -- the visible part, vh rows of vb bytes, lies in the mh rows of blocks, and the block in its macroblock
@@ -22,11 +21,6 @@ pub record Fit (G : Grid) (mh vb vh : ℕ) : Type 0 where
   pub wide : vb ≤ G .mw * G .bw
   pub high : vh ≤ mh * G .bh
   pub within : G .off + G .bh * G .bw ≤ G .size
-
--- a plane among others fits, where its visible part lies in its blocks
-pub grid-fit : (hdr : List ℕ) (mw mh vb vh : ℕ) (As : List Plane) (P : Plane) (Bs : List Plane) → vb ≤ mw * P .bw → vh ≤ mh * P .bh
-    → Fit (gridOf hdr mw As P Bs) mh vb vh
-grid-fit hdr mw mh vb vh As P Bs w h = record { wide = w; high = h; within = omega (arith, size-append As (P ∷ Bs), size-more P Bs) }
 
 -- the byte j of the visible part: its row, its column, and where these are in the blocks
 record Seen (G : Grid) (mh vb vh j : ℕ) : Type 0 where
@@ -134,19 +128,6 @@ row-in {G} {mh} {vb} {vh} f r x w h k e =
         let s = ap (λ (i : ℕ). i * vb) (o .0) in
         let t = ap (λ (i : ℕ). i * G .bw) (o .1) in
         (omega arith, omega arith)
-
--- a row below the visible part, or in a block column right of it, has no byte of it
-pub row-out : {G : Grid} {mh vb vh : ℕ} → Fit G mh vb vh → (r x : ℕ) → x < G .mw → (r < vh → x * G .bw < vb → ⊥)
-    → Clear (posOf G vb) (vh * vb) (place G r x) (place G r x + G .bw)
-row-out {G} {mh} {vb} {vh} f r x h out = record { on = omega arith; none = go }
-  where
-    go : (j : ℕ) → j < vh * vb → place G r x ≤ posOf G vb j → posOf G vb j < place G r x + G .bw → ⊥
-    go j l a c =
-        let d = seen f j l in
-        let o : (j / vb ≡ r) × (j % vb / G .bw ≡ x) = row-only f r x j h l a c in
-        let q = div-add-mod' (j % vb) (G .bw) in
-        let t = ap (λ (i : ℕ). i * G .bw) (o .1) in
-        out (omega arith) (omega arith)
 
 -- the row y of a block
 pub place-block : (G : Grid) (my mx y : ℕ) → y < G .bh → place G (my * G .bh + y) mx ≡ spot G (my * G .mw + mx) (G .off) + y * G .bw

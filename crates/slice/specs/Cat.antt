@@ -30,14 +30,6 @@ pub cat-more : (f : ℕ → List ℕ) (i n : ℕ) → cat f i (n + 1) ≡ f i ++
 unfolding cat
 cat-more f i n = rw (add-one n) refl
 
--- a turn of a loop: one piece is taken off
-pub cat-step : (f : ℕ → List ℕ) (k e : ℕ) → k < e → cat f k (e - k) ≡ f k ++ cat f (k + 1) (e - (k + 1))
-cat-step f k e h = let l : e - k ≡ e - (k + 1) + 1 = omega arith in rw l (cat-more f k (e - (k + 1)))
-
--- the end of a loop: no piece is left
-pub cat-end : (f : ℕ → List ℕ) (k e : ℕ) → e ≤ k → cat f k (e - k) ≡ []
-cat-end f k e h = let l : e - k ≡ 0 = omega arith in rw l (cat-none f k)
-
 -- of what holds at i and at each of the n places behind it: that it holds behind i
 each-later : (P : ℕ → ℕ → Type 0) (i j n : ℕ) → ((k : ℕ) → k < suc n → P (i + k) (j + k)) → (k : ℕ) → k < n → P (i + 1 + k) (j + 1 + k)
 each-later P i j n h k l =

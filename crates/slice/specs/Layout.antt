@@ -87,11 +87,6 @@ unfolding block blockRow rowsOf
 block-lent s stride bw bh my mx =
     cat-same (blockRow (lent s stride bw bh) my mx) (rowsOf s stride (my * (bh * stride) + mx * bw) bw) 0 0 bh (λ y l. ap (λ (p : ℕ). part s p bw) (omega arith))
 
--- no plane: no samples
-pub mb-none : (my mx : ℕ) → mb [] my mx ≡ []
-unfolding mb
-mb-none my mx = refl
-
 -- the block of the first plane, then those of the others
 pub mb-more : (P : Plane) (Ps : List Plane) (my mx : ℕ) → mb (P ∷ Ps) my mx ≡ block P my mx ++ mb Ps my mx
 unfolding mb

@@ -3,29 +3,29 @@
 --     cutWord i r     the answer where the cut leaves r bytes of the frame of unit i
 --     broken-said     so it is
 -- Assumes nothing.
-use mathlib.Core.Path.{_≡_, refl, sym, ap, _∙_}
+use mathlib.Core.Path.{_≡_, refl, ap, _∙_}
 use mathlib.Core.List.{List, [], _∷_, _++_, map}
 use mathlib.Core.Bool.{Bool, true, false, cond}
-use mathlib.Core.Option.{Option, none, some}
-use Prim.Native.Nat.{ℕ, zero, suc, _+_, _-_, _≤_, _<_}
+use mathlib.Core.Option.{none, some}
+use Prim.Native.Nat.{ℕ, suc, _+_, _-_, _≤_, _<_}
 use native.Mathlib.Omega.{arith}
 use lib.Dec.{leb, ltb, eqb}
 use lib.ListN.{length, take}
-use borrow.Author.Tests.{le-leb, lt-leb, lt-ltb, le-ltb, eq-eqb, ne-eqb}
+use borrow.Author.Tests.{le-leb, lt-leb, le-ltb, ne-eqb}
 use Rattle.lists.specs.Test.{either}
 use Rattle.nal_unit.specs.Walk.{trim}
-use Rattle.nal_unit.specs.Calls.{Verdict, Say, said}
-use Rattle.nal_unit.specs.Frame.{says, heldBy, held-full}
+use Rattle.nal_unit.specs.Calls.{Verdict, said}
+use Rattle.nal_unit.specs.Frame.{heldBy, held-full}
 use Rattle.nal_unit.specs.Cut.{tell, Moves}
 use Rattle.ycbcr_image.specs.declared.Session.{Session}
 use Rattle.ycbcr_image.specs.Sizes.{Sequence}
 use Rattle.ycbcr_image.specs.Refusals.{sessionOf}
 use Rattle.encoder.specs.Units.{spsUnit, ppsUnit, pictureUnit}
 use Rattle.encoder.specs.Shot.{Shot, imageOf, lendsOf, sequenceIn, shot-whole}
-use Rattle.reader.specs.Judge.{Held, nothing, Word, refused, possible, keep, judge}
+use Rattle.reader.specs.Judge.{Held, nothing, Word, refused, keep, judge}
 use Rattle.take.specs.Judged.{having, judged-sps, judged-pps, Enough}
-use Rattle.take.specs.Take.{Take, Frames, frames, Framed, sizeOf, unitsOf, wordsOf, pictureUnits, first-framed}
-use Rattle.take.specs.Reading.{listed, fits, full, sizes}
+use Rattle.take.specs.Take.{Take, Frames, frames, Framed, sizeOf, unitsOf, pictureUnits}
+use Rattle.take.specs.Reading.{fits, full, sizes}
 use Rattle.take.specs.Cut.{cut-sps, cut-pps, cut-picture, cut-bare}
 
 unfoldable pub cutWord : ℕ → ℕ → List Word

@@ -1,22 +1,17 @@
 -- What a cut leaves of a unit of a take, and what is answered about it (paper 01, the last paragraph of "Reading a take"). Assumes nothing.
-use mathlib.Core.Path.{_≡_, refl, sym, ap, _∙_}
-use mathlib.Core.List.{List, [], _∷_, _++_}
-use mathlib.Core.Bool.{Bool, true, false, cond}
-use mathlib.Core.Option.{Option, none, some}
-use Prim.Native.Nat.{ℕ, zero, suc, _+_, _-_, _≤_, _<_}
+use mathlib.Core.Path.{_≡_, refl, ap}
+use mathlib.Core.List.{List, [], _∷_}
+use mathlib.Core.Bool.{Bool, true, false}
+use Prim.Native.Nat.{ℕ, suc, _-_, _<_}
 use native.Mathlib.Omega.{arith}
-use lib.Dec.{T, leb, ltb, eqb}
 use lib.ListN.{length, take, length-take}
 use borrow.Author.Tests.{lt-ltb}
 use Rattle.lists.specs.Test.{same, same→eq}
 use Rattle.nal_unit.specs.Escape.{esc}
-use Rattle.nal_unit.specs.Unescape.{un, fault}
 use Rattle.nal_unit.specs.Walk.{trim}
-use Rattle.nal_unit.specs.Units.{Broken, broken-unit}
-use Rattle.nal_unit.specs.Calls.{Verdict}
+use Rattle.nal_unit.specs.Units.{broken-unit}
 use Rattle.parameter_sets.specs.Sps.{spsPayload, baseLevel}
 use Rattle.parameter_sets.specs.Pps.{ppsPayload}
-use Rattle.parameter_sets.specs.Read.{readSps}
 use Rattle.parameter_sets.specs.Prefix.{sps-prefix}
 use Rattle.slice.specs.Picture as P
 use Rattle.ycbcr_image.specs.declared.Session.{Session}
@@ -24,7 +19,7 @@ use Rattle.ycbcr_image.specs.Accepted.{Fine}
 use Rattle.ycbcr_image.specs.Sizes.{Sequence, sequenceOf}
 use Rattle.ycbcr_image.specs.Refusals.{accepted}
 use Rattle.encoder.specs.Units.{spsUnit, ppsUnit, pictureUnit}
-use Rattle.reader.specs.Judge.{Held, nothing, Word, refused, possible, counted, keep, spsVerdict, ppsVerdict, pictureVerdict, heldVerdict, unitVerdict, judge}
+use Rattle.reader.specs.Judge.{Held, nothing, refused, possible, keep, spsVerdict, ppsVerdict, pictureVerdict, heldVerdict, unitVerdict, judge}
 use Rattle.take.specs.Judged.{having, counted-is}
 
 -- a list that is shorter is not the same

@@ -1,12 +1,12 @@
 -- Every payload of a take ends in a nonzero byte, so its units are whole (the frame law of crate nal_unit applies). Assumes nothing.
-use mathlib.Core.Path.{_≡_, refl, sym, ap, _∙_}
+use mathlib.Core.Path.{_≡_, refl, _∙_}
 use mathlib.Core.List.{List, [], _∷_, _++_, append-assoc}
-use Prim.Native.Nat.{ℕ, zero, suc, _+_, _-_, _*_, _≤_, _<_}
+use Prim.Native.Nat.{ℕ, suc, _+_, _-_, _<_}
 use native.Mathlib.Omega.{arith}
 use lib.ListN.{length, getD, length-append}
 use Rattle.bits.specs.Bits.{lowBits, valueFrom}
 use Rattle.bits.specs.Pack.{packed}
-use Rattle.golomb.specs.Code.{digitsIn, numBits, ue}
+use Rattle.golomb.specs.Code.{ue}
 use Rattle.nal_unit.specs.Bytes.{lastOf}
 use Rattle.nal_unit.specs.Walk.{Whole}
 use Rattle.nal_unit.specs.Units.{whole}

@@ -10,7 +10,7 @@ use Rattle.lists.specs.Test.{same}
 use Rattle.nal_unit.specs.Unescape.{un, fault}
 use Rattle.nal_unit.specs.Walk.{Whole}
 use Rattle.nal_unit.specs.Calls.{Verdict, Say, said, Full}
-use Rattle.nal_unit.specs.Frame.{Goes, Wholes, says, heldBy, goes-full, held-full}
+use Rattle.nal_unit.specs.Frame.{Goes, Wholes, says, heldBy, goes-full}
 use Rattle.parameter_sets.specs.Sps.{baseLevel}
 use Rattle.parameter_sets.specs.Pps.{ppsPayload}
 use Rattle.parameter_sets.specs.Read.{readSps}
@@ -118,14 +118,6 @@ module _ (room : ℕ → ℕ) (T : Take) (n : Enough room (sizeOf T)) where
   take-goes =
       rw (judged-sps room z sizes, judged-pps room q fits)
       (sps-unit q, refl, (pps-unit, refl, goes-full (judge room) (having q true) (pictureUnits (T .first ∷ T .others)) (full room q fits n) (pictures-whole room q fits n (T .first ∷ T .others) (frames T))))
-
-  pub take-held : heldBy (judge room) nothing (unitsOf T) ≡ having q true
-  unfolding heldBy
-  take-held =
-      let us = pictureUnits (T .first ∷ T .others) in
-      ap (λ (v : Verdict Held Word). heldBy (judge room) (judge room (v .held) ppsUnit .held) us) (judged-sps room z sizes)
-      ∙ (ap (λ (v : Verdict Held Word). heldBy (judge room) (v .held) us) (judged-pps room q fits)
-      ∙ held-full (judge room) (having q true) us (full room q fits n))
 
   -- and each is answered with its word, at its offset
   pub take-said : (p : ℕ) → says (judge room) nothing p (unitsOf T) ≡ listed p (unitsOf T) (wordsOf T)

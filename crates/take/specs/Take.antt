@@ -10,7 +10,6 @@ use mathlib.Core.Path.{_≡_, refl, sym, _∙_}
 use mathlib.Core.List.{List, [], _∷_, _++_}
 use Prim.Native.Nat.{ℕ}
 use Rattle.nal_unit.specs.Frame.{joined, joined-append, joined-tail}
-use Rattle.slice.specs.Picture as P
 use Rattle.ycbcr_image.specs.Sizes.{Sequence}
 use Rattle.ycbcr_image.specs.Refusals.{refusalOf, refusalNext}
 use Rattle.ycbcr_image.specs.Passed.{Passed, passed, passed-next}

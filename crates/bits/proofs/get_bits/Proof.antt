@@ -1,14 +1,13 @@
 -- `bits::get_bits` meets its contract: the number read so far, with the bits still to come behind it, spells the answer. Assumes nothing.
 use mathlib.Core.Path.{_≡_, refl, sym, _∙_}
-use Prim.Native.Nat.{ℕ, _+_, _-_, _*_, _^_, _≤_, _<_}
+use Prim.Native.Nat.{_+_, _-_, _*_, _^_, _≤_, _<_}
 use native.Mathlib.Nat.{add-zero, sub-zero, add-assoc, pow-suc}
 use native.Mathlib.Numerals.{add-one}
 use native.Mathlib.Omega.{arith}
-use lib.ListN.{length, getD}
+use lib.ListN.{length}
 use lib.Pow.{pow-mono}
 use borrow.Author.Needs.{needs}
 use Rattle.lists.specs.Part.{part, part-cons, part-none}
-use Rattle.lists.specs.Every.{Below}
 use Rattle.bits.specs.Bits.{bitsOf, value, valueFrom, bitCount, bits-length, bits-below, value-cons, value-nil}
 use Rattle.bits.proofs.get_bits.Statement.{statement}
 use Rattle.bits.proofs.get_bits.Tie as tie

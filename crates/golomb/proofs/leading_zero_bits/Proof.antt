@@ -1,6 +1,6 @@
 -- `golomb::leading_zero_bits` meets its contract: the zeros passed and those in front of what is left are those asked for. Assumes nothing.
 use mathlib.Core.Path.{_≡_, sym, _∙_}
-use Prim.Native.Nat.{ℕ, _+_, _-_, _≤_, _<_, min}
+use Prim.Native.Nat.{ℕ, _+_, _-_, _≤_, _<_}
 use native.Mathlib.Nat.{add-zero, add-assoc}
 use native.Mathlib.Omega.{arith}
 use borrow.Author.Needs.{needs}

@@ -1,12 +1,11 @@
 -- `golomb::put_ue` meets its contract: the code is x + 1 in as many bits as the code has. Assumes nothing.
 use mathlib.Core.Path.{_≡_, sym, ap, _∙_}
-use mathlib.Core.List.{List}
-use Prim.Native.Nat.{ℕ, _+_, _-_, _≤_, _<_}
+use Prim.Native.Nat.{ℕ, _+_, _-_}
 use native.Mathlib.Omega.{arith}
 use lib.ListN.{length}
 use borrow.Author.Needs.{needs}
-use Rattle.bits.specs.Bits.{lowBits, low-length, BitsPut}
-use Rattle.golomb.specs.Code.{ue, num-bits, num-most, ue-low, ue-length}
+use Rattle.bits.specs.Bits.{lowBits}
+use Rattle.golomb.specs.Code.{ue, num-most, ue-low, ue-length}
 use Rattle.golomb.proofs.put_ue.Statement.{statement}
 use Rattle.golomb.proofs.put_ue.Tie as tie
 

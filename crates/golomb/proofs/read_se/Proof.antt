@@ -1,5 +1,5 @@
 -- `golomb::read_se` meets its contract: the unsigned code at the place, and what its number stands for. Assumes nothing.
-use mathlib.Core.Path.{_≡_, sym, ap, _∙_}
+use mathlib.Core.Path.{sym, ap, _∙_}
 use lib.IntN.{ℤ}
 use mir.Syntax.{w32}
 use mir.Facts.{toZ-ofZ}

@@ -1,6 +1,6 @@
 -- `golomb::read_ue` meets its contract: the zeros are counted as far as 32, so the tests are the definition's. Assumes nothing.
 use mathlib.Core.Path.{_≡_, refl, sym, ap, _∙_}
-use Prim.Native.Nat.{ℕ, _+_, _-_, _*_, _%_, _^_, _≤_, _<_, min}
+use Prim.Native.Nat.{ℕ, _+_, _-_, _*_, _%_, _^_, _≤_, _<_}
 use native.Mathlib.Nat.{mod-eq-of-lt}
 use native.Mathlib.Omega.{arith}
 use mathlib.Core.List.{List}
@@ -10,10 +10,9 @@ use borrow.Author.Needs.{needs}
 use borrow.Author.Tests.{not-true, not-false}
 use Rattle.lists.specs.Part.{part, part-length}
 use Rattle.lists.specs.Every.{below-part}
-use Rattle.bits.specs.Bits.{bitsOf, bitsFrom, bitCount, value, value-lt, bits-below, bits-length, room-true, room-false, count-lt, count-length, from-length, from-part}
+use Rattle.bits.specs.Bits.{bitsOf, bitsFrom, bitCount, value-lt, bits-below, bits-length, room-true, room-false, count-lt, count-length, from-length, from-part}
 use Rattle.golomb.specs.Read.{leadingZeroBits, codeBits, codeNum, whole-long, whole-short, whole-yes, code-bits, code-num}
 use Rattle.golomb.specs.Answers.{ue-none, ue-some}
-use Rattle.golomb.specs.declared.UeRead.the-variants.{Number}
 use Rattle.golomb.proofs.read_ue.Statement.{statement}
 use Rattle.golomb.proofs.read_ue.Tie as tie
 

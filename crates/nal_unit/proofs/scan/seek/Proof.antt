@@ -1,5 +1,4 @@
 -- `nal_unit::scan::seek` meets its contract. The invariant: the search has reached the place i. Assumes nothing.
-use mathlib.Core.Path.{refl}
 use mathlib.Core.Logic.{inl, inr}
 use Prim.Native.Nat.{_+_, _-_}
 use native.Mathlib.Omega.{arith}

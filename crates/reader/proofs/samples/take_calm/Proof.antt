@@ -1,13 +1,13 @@
 -- `reader::samples::take_calm` meets its contract: the row stands in the unit as it does in the payload, and each plane has its band. Assumes nothing.
 use mathlib.Core.Path.{_≡_, refl, sym, ap, _∙_}
-use Prim.Native.Nat.{ℕ, _+_, _*_, _≤_}
+use Prim.Native.Nat.{ℕ, _+_, _*_}
 use native.Mathlib.Omega.{arith}
 use borrow.Author.Needs.{needs}
 use Rattle.ycbcr_image.specs.Form.{blockBytes, mbBytes, planes-some}
 use Rattle.ycbcr_image.specs.Sizes.{sequenceOf, picWidthInMbs}
 use Rattle.nal_unit.specs.Taking.{Stands}
 use Rattle.reader.specs.Heads.{payloadAt}
-use Rattle.reader.specs.Samples.{headPlace, MbsTook, RowStands, row-as, row-most, row-there, row-stands, bytes-as, bytes-most, stands-at, in-colour, mono-row}
+use Rattle.reader.specs.Samples.{headPlace, RowStands, row-as, row-most, row-there, row-stands, bytes-as, bytes-most, stands-at, in-colour, mono-row}
 use Rattle.reader.proofs.samples.take_calm.Statement.{statement}
 use Rattle.reader.proofs.samples.take_calm.Tie as tie
 

@@ -5,7 +5,7 @@ use native.Mathlib.Omega.{arith}
 use borrow.Author.Needs.{needs}
 use Rattle.ycbcr_image.specs.Form.{planes-some}
 use Rattle.ycbcr_image.specs.Sizes.{sequenceOf, picWidthInMbs}
-use Rattle.reader.specs.Samples.{MbsTook, dark-behind, in-colour, mono-row}
+use Rattle.reader.specs.Samples.{dark-behind, in-colour, mono-row}
 use Rattle.reader.proofs.samples.take_dark.Statement.{statement}
 use Rattle.reader.proofs.samples.take_dark.Tie as tie
 

@@ -1,6 +1,4 @@
 -- `reader::samples::zero_band` meets its contract: the lines of the band are zeros. Assumes nothing.
-use Prim.Native.Nat.{_*_, _≤_}
-use native.Mathlib.Nat.{mul-le-mul-right}
 use native.Mathlib.Omega.{arith}
 use borrow.Author.Needs.{needs}
 use Rattle.ycbcr_image.specs.Sizes.{sequenceOf}
