@@ -7,7 +7,7 @@ use mathlib.Core.Path.{_≡_, refl, sym, ap, _∙_}
 use mathlib.Core.List.{List, [], _∷_}
 use mathlib.Core.Bool.{Bool, true, false, cond, not, _||_, and-eq-true-iff, true≢false}
 use mathlib.Core.Option.{Option, none, some, Option·some-injective}
-use Prim.Native.Nat.{ℕ, _+_, _-_, _*_, _≤_, _<_}
+use Prim.Native.Nat.{ℕ, _+_, _-_, _≤_, _<_}
 use native.Mathlib.Nat.{add-zero}
 use native.Mathlib.Omega.{arith}
 use lib.Dec.{ltb}
@@ -28,11 +28,10 @@ use Rattle.parameter_sets.specs.Answers.{spsRead}
 use Rattle.parameter_sets.specs.Sps.{baseLevel}
 use Rattle.parameter_sets.specs.Pps.{ppsPayload}
 use Rattle.parameter_sets.specs.Read.{readSps}
-use Rattle.slice.specs.Cat.{tab-length}
-use Rattle.slice.specs.Grid.{tightOf}
+use Rattle.slice.specs.Grid.{tight-length}
 use Rattle.slice.specs.Header.{headerOf}
 use Rattle.slice.specs.Formed.{right}
-use Rattle.slice.specs.Picture.{mbsIn, pictureLength, samplesIn}
+use Rattle.slice.specs.Picture.{mbsIn, pictureLength, gridIn, samplesIn}
 use Rattle.ycbcr_image.specs.declared.Session.{Session}
 use Rattle.ycbcr_image.specs.Form.{mbBytes}
 use Rattle.ycbcr_image.specs.Sizes.{Sequence, sequenceOf, visibleHeight, visibleRowBytes, tightLength}
@@ -200,8 +199,8 @@ rooms-enough q y cb cr e t =
     }
 
 samples-length : (q : Sequence) (k : ℕ) (X : List ℕ) → length (samplesIn q k X) ≡ tightLength q k
-unfolding samplesIn tightOf tightLength
-samples-length q k X = tab-length _ 0 (visibleHeight q k * visibleRowBytes q k)
+unfolding samplesIn tightLength
+samples-length q k X = tight-length (gridIn q k) X (visibleRowBytes q k) (visibleHeight q k)
 
 -- ---- planes
 
@@ -213,7 +212,8 @@ nobody = record { y = []; cb = []; cr = [] }
 shown-idle : {v : Verdict Held Word} {p o n : ℕ} {r : Step} (y cb cr : List ℕ) → handedBy (v .word) ≡ nobody → Judged v p o n r → Shown v p o n r y y cb cb cr cr
 shown-idle y cb cr i j = record { judged = j; in-y = rw i refl; in-cb = rw i refl; in-cr = rw i refl }
 
-pub shown-refused : {v : Verdict Held Word} {h : Held} {k p o n : ℕ} {r : Step} (y cb cr : List ℕ) → keep h (refused k) ≡ v → Judged (keep h (refused k)) p o n r → Shown v p o n r y y cb cb cr cr
+pub shown-refused : {v : Verdict Held Word} {h : Held} {b : Bool} {k p o n : ℕ} {r : Step} (y cb cr : List ℕ) → record { word = refused k; held = h; stay = b } ≡ v
+    → Judged (record { word = refused k; held = h; stay = b }) p o n r → Shown v p o n r y y cb cb cr cr
 shown-refused y cb cr e j = shown-as e (shown-idle y cb cr refl j)
 
 pub shown-sps : {p o n : ℕ} {r : Step} (y cb cr : List ℕ) (h c : Held) (m : Option Sequence) → Judged (spsVerdict h c m) p o n r → Shown (spsVerdict h c m) p o n r y y cb cb cr cr
@@ -240,11 +240,7 @@ shown-pps y cb cr h c X j = shown-idle y cb cr (go (same X ppsPayload)) j
     go true = refl
     go false = refl
 
--- 19 leaves them too, and a picture fills them
-pub shown-19 : {v : Verdict Held Word} {h : Held} {p o n : ℕ} {r : Step} (y cb cr : List ℕ) → record { word = refused 19; held = h; stay = true } ≡ v
-    → Judged (record { word = refused 19; held = h; stay = true }) p o n r → Shown v p o n r y y cb cb cr cr
-shown-19 y cb cr e j = shown-as e (shown-idle y cb cr refl j)
-
+-- a picture fills them
 pub shown-picture : {v : Verdict Held Word} {h : Held} {p o n : ℕ} {r : Step} (q : Sequence) (X : List ℕ) {y y′ cb cb′ cr cr′ : List ℕ} → keep h (picture (samplesOf q X)) ≡ v
     → Judged (keep h (picture (samplesOf q X))) p o n r → PlanesTook q X y y′ cb cb′ cr cr′ → Shown v p o n r y y′ cb cb′ cr cr′
 shown-picture q X e j t =

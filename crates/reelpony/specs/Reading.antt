@@ -39,19 +39,19 @@ numberTold (ppsAt o) = 0
 numberTold (pictureAt o) = 0
 numberTold (refusedAt o n) = n
 
+-- a size and kind among eight numbers
+abbrev pub sized8 : ℕ → ℕ → Sequence → ℕ → ℕ → List ℕ
+sized8 a b q c d = a ∷ b ∷ q .width ∷ q .height ∷ q .form .chroma ∷ q .form .depth ∷ c ∷ d ∷ []
+
 abbrev pub told8 : Told → List ℕ
 told8 over = 0 ∷ 0 ∷ 0 ∷ 0 ∷ 0 ∷ 0 ∷ 0 ∷ 0 ∷ []
-told8 (spsAt o q) = 1 ∷ o ∷ q .width ∷ q .height ∷ q .form .chroma ∷ q .form .depth ∷ 0 ∷ 0 ∷ []
+told8 (spsAt o q) = sized8 1 o q 0 0
 told8 (ppsAt o) = 2 ∷ o ∷ 0 ∷ 0 ∷ 0 ∷ 0 ∷ 0 ∷ 0 ∷ []
 told8 (pictureAt o) = 3 ∷ o ∷ 0 ∷ 0 ∷ 0 ∷ 0 ∷ 0 ∷ 0 ∷ []
 told8 (refusedAt o n) = 4 ∷ o ∷ 0 ∷ 0 ∷ 0 ∷ 0 ∷ n ∷ 0 ∷ []
 
--- the numbers of a state at the place p that holds the size and kind q; b is the flag of the PPS, z the spare one
-abbrev pub sized8 : ℕ → Sequence → ℕ → ℕ → List ℕ
-sized8 p q b z = p ∷ 1 ∷ q .width ∷ q .height ∷ q .form .chroma ∷ q .form .depth ∷ b ∷ z ∷ []
-
 unfoldable pub held8 : ℕ → Held → ℕ → List ℕ
-held8 p h z = elim (h .sps) [ none ↦ p ∷ 0 ∷ 0 ∷ 0 ∷ 0 ∷ 0 ∷ cond (h .pps) 1 0 ∷ z ∷ [] | some q ↦ sized8 p q (cond (h .pps) 1 0) z ]
+held8 p h z = elim (h .sps) [ none ↦ p ∷ 0 ∷ 0 ∷ 0 ∷ 0 ∷ 0 ∷ cond (h .pps) 1 0 ∷ z ∷ [] | some q ↦ sized8 p 1 q (cond (h .pps) 1 0) z ]
 
 -- only the place is another
 abbrev pub moved8 : ℕ → List ℕ → List ℕ

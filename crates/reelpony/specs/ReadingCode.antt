@@ -133,7 +133,7 @@ pub held-missing : (p : ℕ) (h : HeldSets) (z : ℕ) {f : ℕ} → h .sps ≡ M
 unfolding held8
 held-missing p h z e f = rw (e, f) refl
 
-pub held-sized : (p : ℕ) (h : HeldSets) (z : ℕ) {f : ℕ} {s : Session} {w : List ℕ} → h .sps ≡ Size s → f ≡ cond (h .pps) 1 0 → w ≡ sized8 p (sequenceOf s) f z → w ≡ held8 p (heldOf h) z
+pub held-sized : (p : ℕ) (h : HeldSets) (z : ℕ) {f : ℕ} {s : Session} {w : List ℕ} → h .sps ≡ Size s → f ≡ cond (h .pps) 1 0 → w ≡ sized8 p 1 (sequenceOf s) f z → w ≡ held8 p (heldOf h) z
 unfolding held8
 held-sized p h z e f w = w ∙ rw (e, f) refl
 

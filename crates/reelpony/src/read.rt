@@ -10,7 +10,7 @@ ghost use mathlib.Core.Path.{_≡_};
 ghost use mathlib.Core.Bool.{true, cond};
 ghost use Rattle.ycbcr_image.specs.Sizes.{sequenceOf};
 ghost use Rattle.reader.specs.Judge.{nothing, counted};
-ghost use Rattle.reader.specs.Read.{spsAt, toldOf, heldOf, planeLength};
+ghost use Rattle.reader.specs.Read.{toldOf, heldOf, planeLength};
 ghost use Rattle.reelpony.specs.Reading.{sequenceIn, heldIn, numberTold, told8, sized8, held8, moved8, after8, ReadsIn};
 ghost use Rattle.reelpony.specs.ReadingCode.{sized};
 
@@ -68,23 +68,23 @@ fn sets_in(ws: &[u64; 8]) -> HeldSets
     }
 }
 
-// The eight numbers of an answer about a sequence parameter set.
-fn sps_words(o: usize, s: Session) -> [u64; 8]
-    ensures { λ r. ⌜ r ≡ told8 (spsAt o (sequenceOf s)) ⌝ }
+// Eight numbers, of an answer or a state, with the size and kind s among them.
+fn sized_words(a: u64, b: u64, s: Session, c: u64, d: u64) -> [u64; 8]
+    ensures { λ r. ⌜ r ≡ sized8 a b (sequenceOf s) c d ⌝ }
 {
     let kind = s.kind;
     let depth = s.depth;
     let colour = ycbcr_image::chroma_format_idc(kind);
     let bits = ycbcr_image::num_bits(depth);
     [
-        1,
-        o as u64,
+        a,
+        b,
         s.width as u64,
         s.height as u64,
         colour as u64,
         bits as u64,
-        0,
-        0,
+        c,
+        d,
     ]
 }
 
@@ -94,7 +94,7 @@ fn told_words(a: Answer) -> [u64; 8]
 {
     match a {
         Answer::End => [0, 0, 0, 0, 0, 0, 0, 0],
-        Answer::Sps(o, s) => sps_words(o, s),
+        Answer::Sps(o, s) => sized_words(1, o as u64, s, 0, 0),
         Answer::Pps(o) => [2, o as u64, 0, 0, 0, 0, 0, 0],
         Answer::Picture(o) => [3, o as u64, 0, 0, 0, 0, 0, 0],
         Answer::Refused(n, o) => [4, o as u64, 0, 0, 0, 0, n as u64, 0],
@@ -124,26 +124,6 @@ fn flag(b: bool) -> u64
     0
 }
 
-// The eight numbers of a state at the place p that holds the size and kind s; z is the spare one.
-fn sized_words(p: usize, s: Session, pps: u64, z: u64) -> [u64; 8]
-    ensures { λ r. ⌜ r ≡ sized8 p (sequenceOf s) pps z ⌝ }
-{
-    let kind = s.kind;
-    let depth = s.depth;
-    let colour = ycbcr_image::chroma_format_idc(kind);
-    let bits = ycbcr_image::num_bits(depth);
-    [
-        p as u64,
-        1,
-        s.width as u64,
-        s.height as u64,
-        colour as u64,
-        bits as u64,
-        pps,
-        z,
-    ]
-}
-
 // The eight numbers of a state.
 fn held_words(p: usize, h: HeldSets, z: u64) -> [u64; 8]
     ensures { λ r. ⌜ r ≡ held8 p (heldOf h) z ⌝ }
@@ -152,7 +132,7 @@ fn held_words(p: usize, h: HeldSets, z: u64) -> [u64; 8]
     let pps = flag(h.pps);
     match sps {
         HeldSps::Missing => [p as u64, 0, 0, 0, 0, 0, pps, z],
-        HeldSps::Size(s) => sized_words(p, s, pps, z),
+        HeldSps::Size(s) => sized_words(p as u64, 1, s, pps, z),
     }
 }
 

@@ -4,7 +4,7 @@ use Rattle.ycbcr_image.specs.Accepted.{fine}
 use Rattle.ycbcr_image.specs.Sizes.{sequenceOf}
 use Rattle.reader.specs.Heads.{payloadAt, small-length}
 use Rattle.reader.specs.Read.{heldOf, rooms}
-use Rattle.reader.specs.ReadCode.{Measured, picture-17, picture-18, picture-19, picture-shown, picture-exact, rooms-enough, shown-refused, shown-19, shown-picture}
+use Rattle.reader.specs.ReadCode.{Measured, picture-17, picture-18, picture-19, picture-shown, picture-exact, rooms-enough, shown-refused, shown-picture}
 use borrow.Author.Needs.{needs}
 use Rattle.reader.proofs.judge.take_picture.Statement.{statement}
 use Rattle.reader.proofs.judge.take_picture.Tie as tie
@@ -65,7 +65,7 @@ returns-3 c =
     let a = s .args in
     let X = payloadAt (a .s .now) (a .u .begin) (a .u .stop) in
     let g : Measured (sequenceOf (a .q)) X _ _ = record { has = small-length (a .s .now) (a .u .begin) (a .u .stop) (c .before .before .before .before .before .before .before .before .before .payload-len-to .ensures); wants = c .before .before .before .before .before .before .before .before .payload-len .ensures } in
-    shown-19 (a .y .now) (a .cb .now) (a .cr .now) (picture-19 (rooms (a .y .now) (a .cb .now) (a .cr .now)) (heldOf (a .h)) (sequenceOf (a .q)) X g (c .before .before .before .before .before .before .before .if1 .left) (c .before .before .before .before .before .before .formless .ensures) (c .before .before .before .before .before .if2 .left) (c .before .short .ensures) (c .if3 .taken)) record { answer = refl; place = refl; held = refl }
+    shown-refused (a .y .now) (a .cb .now) (a .cr .now) (picture-19 (rooms (a .y .now) (a .cb .now) (a .cr .now)) (heldOf (a .h)) (sequenceOf (a .q)) X g (c .before .before .before .before .before .before .before .if1 .left) (c .before .before .before .before .before .before .formless .ensures) (c .before .before .before .before .before .if2 .left) (c .before .short .ensures) (c .if3 .taken)) record { answer = refl; place = refl; held = refl }
 
 samples-requires : tie.Need-samples-requires
 samples-requires c κs =

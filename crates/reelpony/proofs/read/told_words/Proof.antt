@@ -10,8 +10,8 @@ enum-told c = search needs
 enum-known-a : tie.Need-enum-known-a
 enum-known-a c = search needs
 
-sps-words-requires : tie.Need-sps-words-requires
-sps-words-requires c κs = search needs
+sized-words-requires : tie.Need-sized-words-requires
+sized-words-requires c κs = search needs
 
 enum-known-a-2 : tie.Need-enum-known-a-2
 enum-known-a-2 c = search needs
@@ -22,14 +22,14 @@ enum-known-a-3 c = search needs
 enum-known-a-4 : tie.Need-enum-known-a-4
 enum-known-a-4 c = search needs
 
-cast-t12 : tie.Need-cast-t12
-cast-t12 c = search needs
+cast-t13 : tie.Need-cast-t13
+cast-t13 c = search needs
 
 returns : tie.Need-returns
 returns c = search needs
 
 returns-2 : tie.Need-returns-2
-returns-2 c = rw (c .before .before .a .given .1) (c .sps-words .ensures)
+returns-2 c = rw (c .before .before .a .given .1) (c .sized-words .ensures)
 
 returns-3 : tie.Need-returns-3
 returns-3 c = rw (c .before .a2 .given .1) refl
@@ -46,11 +46,11 @@ told-words-spec =
     (tie.spec
     enum-told
     enum-known-a
-    sps-words-requires
+    sized-words-requires
     enum-known-a-2
     enum-known-a-3
     enum-known-a-4
-    cast-t12
+    cast-t13
     returns
     returns-2
     returns-3
