@@ -9,14 +9,12 @@
 use mathlib.Core.Path.{_≡_, refl}
 use mathlib.Core.List.{List, [], _∷_, _++_, map}
 use mathlib.Core.Bool.{true, false}
-use Prim.Native.Nat.{ℕ, _+_}
+use Prim.Native.Nat.{ℕ, _+_, _-_, _≤_}
 use lib.ListN.{length, take, drop, replicate}
-use Rattle.nal_unit.specs.StartCode.{startCode, code}
+use Rattle.nal_unit.specs.StartCode.{code}
 use Rattle.nal_unit.specs.Calls.{Say, ended, astray, said, at, turn, answers}
 use Rattle.nal_unit.specs.Cut.{kept}
 use Rattle.nal_unit.specs.Damage.{moved}
-use Rattle.nal_unit.specs.Frame.{joined}
-use Rattle.encoder.specs.Units.{spsUnit, ppsUnit}
 use Rattle.reader.specs.declared.HeldSps.the-variants.{Missing}
 use Rattle.reader.specs.declared.Reader.{Reader}
 use Rattle.reader.specs.declared.Step.{Step}
@@ -25,7 +23,7 @@ use Rattle.reader.specs.Read.{told, toldOf, heldOf, roomOf, handed, laid, Reads
 use Rattle.take.specs.Judged.{having, Enough}
 use Rattle.take.specs.Take.{Take, sizeOf, bytesOf, unitsOf, wordsOf}
 use Rattle.take.specs.Reading.{listed}
-use Rattle.take.specs.Promises.{round-trip, cutSays, cut, damage}
+use Rattle.take.specs.Promises.{round-trip, cutSays, cut, pictureCode, replaced, damage}
 
 -- a call of `read`: the planes lent to it, what it answered with the next state, the planes then
 pub record Call : Type 0 where
@@ -99,13 +97,13 @@ pub host-cut : (i j k : ℕ) (T : Take) (n : ℕ) (cs : List Call) (m : ℕ) →
     → length cs ≡ length (kept n (unitsOf T)) + (length (cutSays n T) + m) → Gets cs (listed 0 (kept n (unitsOf T)) (wordsOf T) ++ (cutSays n T ++ replicate m ended))
 host-cut i j k T n cs m e l g z = rw (z, cut (roomOf i j k) T n m e) at (runs-get i j k (take n (bytesOf T)) fresh cs l g)
 
--- The same over a take of which a stretch m, behind the first picture's start code, is replaced by any m′: after some number of calls, which the damage alone
--- decides, the calls answer and leave what they do in the undamaged take from the start code at k in b on, with the offsets moved.
-pub host-damage : (i j k : ℕ) (T : Take) (a x m m′ b : List ℕ) (o : ℕ) → Enough (roomOf i j k) (sizeOf T) → bytesOf T ≡ a ++ (m ++ b)
-    → a ≡ joined (spsUnit (sizeOf T) ∷ ppsUnit ∷ []) (0 ∷ startCode x) → code (drop o b) ≡ true
-    → (n : ℕ) × ((cs : List Call) (d : ℕ) → Lends i j k cs → Runs (a ++ (m′ ++ b)) fresh cs → length cs ≡ n + d
-    → Gets cs (answers (judge (roomOf i j k)) (a ++ (m′ ++ b)) n nothing 0
-    ++ map (moved (length m) (length m′)) (answers (judge (roomOf i j k)) (bytesOf T) d (having (sizeOf T) true) (length a + (length m + o)))))
-host-damage i j k T a x m m′ b o e v w c =
-    let p = damage (roomOf i j k) T a x m m′ b o e v w c in
-    (p .0, λ cs d l g z. rw (z, p .1 d) at (runs-get i j k (a ++ (m′ ++ b)) fresh cs l g))
+-- The same over a take of which any stretch behind the first picture's start code, from u up to v, is replaced by anything, m: after some number of calls,
+-- which the damage alone decides, the calls answer and leave what they do in the undamaged take from the start code at o on, any that stands wholly behind
+-- the stretch, with the offsets moved.
+pub host-damage : (i j k : ℕ) (T : Take) (u v o : ℕ) (m : List ℕ) → Enough (roomOf i j k) (sizeOf T) → pictureCode T ≤ u → u ≤ v → v ≤ o → code (drop o (bytesOf T)) ≡ true
+    → (n : ℕ) × ((cs : List Call) (c : ℕ) → Lends i j k cs → Runs (replaced (bytesOf T) u v m) fresh cs → length cs ≡ n + c
+    → Gets cs (answers (judge (roomOf i j k)) (replaced (bytesOf T) u v m) n nothing 0
+    ++ map (moved (v - u) (length m)) (answers (judge (roomOf i j k)) (bytesOf T) c (having (sizeOf T) true) o)))
+host-damage i j k T u v o m e a b d f =
+    let p = damage (roomOf i j k) T u v o m e a b d f in
+    (p .0, λ cs c l g z. rw (z, p .1 c) at (runs-get i j k (replaced (bytesOf T) u v m) fresh cs l g))

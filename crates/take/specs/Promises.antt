@@ -4,25 +4,29 @@
 --     cut            the first n bytes alone: the units that are whole within n, then at most one refusal, then End
 --     damage         any stretch behind the first picture's start code is replaced by anything: from each start code wholly behind it, all is read
 --                    as in the undamaged take
+--     pictureCode, replaced     the place behind the first picture's start code; bytes of which a stretch is replaced
 -- Assumes nothing.
-use mathlib.Core.Path.{_≡_, refl, ap, _∙_}
+use mathlib.Core.Path.{_≡_, refl, sym, ap, _∙_}
 use mathlib.Core.List.{List, [], _∷_, _++_, map}
 use mathlib.Core.Bool.{true, cond}
-use Prim.Native.Nat.{ℕ, _+_, _-_, _≤_, _<_}
+use Prim.Native.Nat.{ℕ, suc, _+_, _-_, _≤_, _<_}
 use native.Mathlib.Omega.{arith}
 use lib.Dec.{leb}
 use borrow.Author.Tests.{le-leb, lt-leb}
-use lib.ListN.{length, take, drop, replicate, length-append}
-use Rattle.nal_unit.specs.StartCode.{startCode, code}
+use lib.ListN.{length, take, drop, replicate, length-append, take-append-drop}
+use lib.Seq.{drop-drop, length-take-le, take-append-add}
+use Rattle.lists.specs.Part.{part, part-length, part-rest}
+use Rattle.nal_unit.specs.StartCode.{startCode, code, code-fits}
 use Rattle.nal_unit.specs.Calls.{Verdict, Say, ended, said, answers}
 use Rattle.nal_unit.specs.Frame.{joined, reads, says, heldBy, placeBy, place-joined, joined-append, joined-tail}
 use Rattle.nal_unit.specs.Cut as C
 use Rattle.nal_unit.specs.Cut.{kept, broken, cut-exact, all, within, told, Moves}
 use Rattle.nal_unit.specs.Damage.{moved, damage-reads}
-use Rattle.encoder.specs.Units.{spsUnit, ppsUnit}
+use Rattle.encoder.specs.Shot.{lendsOf}
+use Rattle.encoder.specs.Units.{spsUnit, ppsUnit, pictureUnit}
 use Rattle.reader.specs.Judge.{Held, nothing, Word, judge}
 use Rattle.take.specs.Judged.{having, Enough}
-use Rattle.take.specs.Take.{Take, sizeOf, bytesOf, unitsOf, wordsOf, bytes-units}
+use Rattle.take.specs.Take.{Take, sizeOf, bytesOf, pictureUnits, unitsOf, wordsOf, bytes-units}
 use Rattle.take.specs.Broken.{cutWord, broken-said}
 use Rattle.take.specs.Reading.{listed, fits, full, take-goes, take-said, sets-go, sets-held}
 
@@ -97,14 +101,51 @@ cut room T n k e =
 
 -- ---- damage
 
--- The take is a, m and b side by side; a holds everything up to and with the first picture's start code, and x what it has behind that. Whatever m is
--- replaced by, and for each start code that stands wholly in b, at k: the reader, from the first byte with nothing held, arrives there after some
--- calls; and from there on it answers, however often it is called, what it answers there in the undamaged take, with the offsets moved by the
--- change in length.
-pub damage : (room : ℕ → ℕ) (T : Take) (a x m m′ b : List ℕ) (k : ℕ) → Enough room (sizeOf T) → bytesOf T ≡ a ++ (m ++ b)
-    → a ≡ joined (spsUnit (sizeOf T) ∷ ppsUnit ∷ []) (0 ∷ startCode x) → code (drop k b) ≡ true
-    → (n : ℕ) × ((j : ℕ) → answers (judge room) (a ++ (m′ ++ b)) (n + j) nothing 0
-    ≡ answers (judge room) (a ++ (m′ ++ b)) n nothing 0 ++ map (moved (length m) (length m′)) (answers (judge room) (bytesOf T) j (having (sizeOf T) true) (length a + (length m + k))))
-damage room T a x m m′ b k n e v c =
-    let h = sets-held room T n in
-    rw (e, ← h) (damage-reads (judge room) (spsUnit (sizeOf T) ∷ ppsUnit ∷ []) a x m m′ b nothing k v (sets-go room T n) (rw h (full room (sizeOf T) (fits room T n) n)) c)
+-- the place behind the first picture's start code
+unfoldable pub pictureCode : Take → ℕ
+pictureCode T = length (joined (spsUnit (sizeOf T) ∷ ppsUnit ∷ []) []) + 4
+
+-- the bytes s of which those from i up to j are replaced by m
+unfoldable pub replaced : List ℕ → ℕ → ℕ → List ℕ → List ℕ
+replaced s i j m = take i s ++ (m ++ drop j s)
+
+-- so many bytes of a take hold both parameter sets and the first picture's start code
+front-at : (T : Take) (r : ℕ) → take (length (joined (spsUnit (sizeOf T) ∷ ppsUnit ∷ []) []) + suc (suc (suc (suc r)))) (bytesOf T)
+    ≡ joined (spsUnit (sizeOf T) ∷ ppsUnit ∷ []) (0 ∷ startCode (take r (pictureUnit (sizeOf T) (lendsOf (T .first)) ++ joined (pictureUnits (T .others)) [])))
+unfolding pictureUnits joined
+front-at T r =
+    let sets = spsUnit (sizeOf T) ∷ ppsUnit ∷ [] in
+    let u = pictureUnit (sizeOf T) (lendsOf (T .first)) in
+    let y = u ++ joined (pictureUnits (T .others)) [] in
+    rw (bytes-units T, joined-append sets (u ∷ pictureUnits (T .others)) [], joined-tail sets (0 ∷ startCode y), take-append-add (joined sets []) (0 ∷ startCode y) (suc (suc (suc (suc r)))))
+    (sym (joined-tail sets (0 ∷ startCode (take r y))))
+
+front : (T : Take) (i : ℕ) → pictureCode T ≤ i → (x : List ℕ) × (take i (bytesOf T) ≡ joined (spsUnit (sizeOf T) ∷ ppsUnit ∷ []) (0 ∷ startCode x))
+unfolding pictureCode
+front T i l =
+    let F : ℕ = length (joined (spsUnit (sizeOf T) ∷ ppsUnit ∷ []) []) in
+    let n : i ≡ F + suc (suc (suc (suc (i - (F + 4))))) = omega arith in
+    (take (i - (F + 4)) (pictureUnit (sizeOf T) (lendsOf (T .first)) ++ joined (pictureUnits (T .others)) []), ap (λ (k : ℕ). take k (bytesOf T)) n ∙ front-at T (i - (F + 4)))
+
+-- Replace any stretch of a take behind the first picture's start code, the bytes from i up to j, by anything, m; and take any start code that stands wholly
+-- behind it, at k. The reader, from the first byte with nothing held, arrives there after some calls, n; and from there on it answers, however often it is
+-- called, what it answers there in the undamaged take, with the offsets moved by the change in length.
+pub damage : (room : ℕ → ℕ) (T : Take) (i j k : ℕ) (m : List ℕ) → Enough room (sizeOf T) → pictureCode T ≤ i → i ≤ j → j ≤ k → code (drop k (bytesOf T)) ≡ true
+    → (n : ℕ) × ((c : ℕ) → answers (judge room) (replaced (bytesOf T) i j m) (n + c) nothing 0
+    ≡ answers (judge room) (replaced (bytesOf T) i j m) n nothing 0 ++ map (moved (j - i) (length m)) (answers (judge room) (bytesOf T) c (having (sizeOf T) true) k))
+unfolding replaced
+damage room T i j k m e l a b c =
+    let s = bytesOf T in
+    let h = sets-held room T e in
+    let f = front T i l in
+    let long : k + 3 ≤ length s = code-fits s k c in
+    let t : length (take i s) ≡ i = length-take-le i s (omega arith) in
+    let d : length (part s i (j - i)) ≡ j - i = part-length s i (j - i) (omega arith) in
+    let x : i + (j - i) ≡ j = omega arith in
+    let y : j + (k - j) ≡ k = omega arith in
+    let z : i + (j - i + (k - j)) ≡ k = omega arith in
+    let v : drop i s ≡ part s i (j - i) ++ drop j s = rw x at (part-rest s i (j - i)) in
+    let w : take i s ++ (part s i (j - i) ++ drop j s) ≡ s = rw v at (take-append-drop i s) in
+    let o : code (drop (k - j) (drop j s)) ≡ true = rw (drop-drop (k - j) j s) (rw y c) in
+    let r = damage-reads (judge room) (spsUnit (sizeOf T) ∷ ppsUnit ∷ []) (take i s) (f .0) (part s i (j - i)) m (drop j s) nothing (k - j) (f .1) (sets-go room T e) (rw h (full room (sizeOf T) (fits room T e) e)) o in
+    rw (t, d, w, z, h) at r
