@@ -18,7 +18,10 @@ use Rattle.lists.specs.Test.{either}
 use Rattle.nal_unit.specs.Escape.{esc, escFrom, esc-most}
 use Rattle.nal_unit.specs.ListsCode.{splice-front}
 use Rattle.nal_unit.specs.Frame.{joined}
-use Rattle.nal_unit.specs.EscapeCode.{counted, opening, framed, framed-length, Framed, frame-room, frame-put, Put, Counts}
+use Rattle.nal_unit.specs.EscapeCode.{counted}
+use Rattle.nal_unit.specs.PutCode.{Put}
+use Rattle.nal_unit.specs.CountCode.{Counts}
+use Rattle.nal_unit.specs.UnitCode.{opening, framed, framed-length, Framed, frame-room, frame-put}
 use Rattle.parameter_sets.specs.declared.Payload.{Payload}
 use Rattle.parameter_sets.specs.Sps.{spsPayload, baseLevel}
 use Rattle.parameter_sets.specs.Pps.{ppsPayload, pps-is}

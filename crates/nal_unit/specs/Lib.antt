@@ -11,11 +11,14 @@ pub mod Damage
 pub mod Units
 pub mod Plain
 pub mod EscapeCode
+pub mod CalmCode
+pub mod PutCode
+pub mod CountCode
+pub mod UnitCode
 pub mod ListsCode
 pub mod Answers
 pub mod Kept
 pub mod Taking
-pub mod Copying
 pub mod TakingCode
 pub mod ScanCode
 pub mod UnescapeCode

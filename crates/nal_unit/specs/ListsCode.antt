@@ -1,11 +1,12 @@
 -- Laws of lists in general that the code of escaping cites.
 --     part-end         nothing is left of a part behind its last element
 --     part-cut         a part is its first elements, then the others
---     part-all         a list is the part of its own length
---     splice-front     what is written from the first element on
+--     splice-front     what is written from the first element on; splice-whole, over all elements
+--     Copied           a copy that is under way, of any width; copy-start, copy-turn, copy-end
+--     every, Flag      a test of some numbers in a row; a loop that makes it with a flag
 -- Assumes nothing.
 use mathlib.Core.Path.{_≡_, refl, sym, ap, _∙_}
-use mathlib.Core.List.{List, [], _++_}
+use mathlib.Core.List.{List, [], _++_, append-nil}
 use mathlib.Core.Bool.{Bool, true, false, _&&_}
 use Prim.Native.Nat.{ℕ, zero, suc, _+_, _-_, _≤_, _<_}
 use native.Mathlib.Nat.{zero-add, add-zero, sub-zero}
@@ -14,7 +15,7 @@ use native.Mathlib.Omega.{arith}
 use lib.Dec.{eqb, eqb·suc-zero}
 use lib.Bits.{bitOr, or-zero-l, or-add-and, and-le-r}
 use lib.ListN.{length, take, drop, getD, set, drop-of-length-le, take-append-drop}
-use lib.Seq.{take-length, drop-drop, drop-at, take-at, length-take-le}
+use lib.Seq.{drop-length, drop-drop, drop-at, take-at, length-take-le}
 use borrow.Author.Tests.{ne-eqb}
 use Rattle.lists.specs.Fill.{splice, Writing, start-at, put, done-at}
 use Rattle.lists.specs.Part.{part, part-length, part-at, part-append, drop-step}
@@ -46,13 +47,12 @@ part-cut s p n m h =
     let e : n ≡ m + (n - m) = omega arith in
     ap (λ (l : ℕ). part s p l) e ∙ part-append s p m (n - m)
 
-pub part-all : (s : List ℕ) → part s 0 (length s) ≡ s
-unfolding part
-part-all s = take-length s
-
 pub splice-front : (d v : List ℕ) → splice d 0 v ≡ v ++ drop (length v) d
 unfolding splice
 splice-front d v = rw (zero-add (length v)) refl
+
+pub splice-whole : (d v : List ℕ) → length v ≡ length d → splice d 0 v ≡ v
+splice-whole d v e = splice-front d v ∙ rw (e, drop-length d) (append-nil v)
 
 -- The first k elements of v stand at the place `at` of a buffer that held d and holds out: a copy that is under way, of any width.
 pub record Copied (d : List ℕ) (at : ℕ) (v out : List ℕ) (k : ℕ) : Type 0 where

@@ -3,7 +3,8 @@ ghost use mathlib.Core.Path.{_≡_};
 ghost use Prim.Native.Nat.{_+_, _≤_};
 ghost use lib.ListN.{length};
 ghost use Rattle.nal_unit.specs.ListsCode.{every};
-ghost use Rattle.nal_unit.specs.EscapeCode.{counted, plainAt, zeroAt};
+ghost use Rattle.nal_unit.specs.EscapeCode.{counted};
+ghost use Rattle.nal_unit.specs.CalmCode.{plainAt, zeroAt};
 
 // Whether none of the n bytes from the place p on is 03 or less behind two zeros: whether the stretch is its own escape.
 pub fn calm(s: &[u8], p: usize, n: usize) -> bool

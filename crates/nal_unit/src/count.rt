@@ -4,7 +4,8 @@ ghost use mathlib.Core.List.{_∷_, []};
 ghost use Prim.Native.Nat.{_+_, _≤_};
 ghost use lib.ListN.{length};
 ghost use Rattle.lists.specs.Part.{part};
-ghost use Rattle.nal_unit.specs.EscapeCode.{counted, Counts};
+ghost use Rattle.nal_unit.specs.EscapeCode.{counted};
+ghost use Rattle.nal_unit.specs.CountCode.{Counts};
 
 // A stretch of payload: the bytes that its escape has, and the zero bytes counted behind it.
 pub struct Count {

@@ -7,7 +7,9 @@ ghost use Prim.Native.Nat.{_+_, _<_, _≤_};
 ghost use lib.ListN.{length};
 ghost use Rattle.lists.specs.Part.{part};
 ghost use Rattle.nal_unit.specs.Escape.{escFrom};
-ghost use Rattle.nal_unit.specs.EscapeCode.{counted, blanks, Put};
+ghost use Rattle.nal_unit.specs.EscapeCode.{counted};
+ghost use Rattle.nal_unit.specs.CalmCode.{blanks};
+ghost use Rattle.nal_unit.specs.PutCode.{Put};
 
 // Writes 64 zeros of payload behind one counted zero: 32 pairs, each with 03 before its second, after which one is counted again.
 fn put_zeros1(out: &mut [u8], at: usize) -> usize

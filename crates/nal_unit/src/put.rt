@@ -5,7 +5,8 @@ ghost use Prim.Native.Nat.{_+_, _≤_};
 ghost use lib.ListN.{length};
 ghost use Rattle.lists.specs.Part.{part};
 ghost use Rattle.nal_unit.specs.Escape.{inserts, escFrom};
-ghost use Rattle.nal_unit.specs.EscapeCode.{counted, Put};
+ghost use Rattle.nal_unit.specs.EscapeCode.{counted};
+ghost use Rattle.nal_unit.specs.PutCode.{Put};
 
 // Whether 03 goes before the byte b at the place `at`.
 fn wants3(out: &[u8], at: usize, b: u8) -> bool

@@ -6,7 +6,7 @@ ghost use mathlib.Core.Path.{_≡_};
 ghost use Prim.Native.Nat.{_+_, _<_, _≤_};
 ghost use lib.ListN.{length};
 ghost use Rattle.lists.specs.Fill.{splice};
-ghost use Rattle.nal_unit.specs.EscapeCode.{opening, framed, Framed};
+ghost use Rattle.nal_unit.specs.UnitCode.{opening, framed, Framed};
 
 // Writes the start code 00 00 00 01 and the header byte at the place `at`, and answers the place behind them.
 pub fn open_unit(out: &mut [u8], at: usize, header: u8) -> usize

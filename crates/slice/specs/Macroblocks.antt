@@ -15,7 +15,9 @@ use native.Mathlib.Omega.{arith}
 use lib.ListN.{length, length-append}
 use lib.Arith.{digits-lt}
 use Rattle.nal_unit.specs.Escape.{esc, escFrom, zerosEnd, esc-append}
-use Rattle.nal_unit.specs.EscapeCode.{counted, Put, Counts, esc-stop, pieces-first, pieces-room, pieces}
+use Rattle.nal_unit.specs.EscapeCode.{counted, esc-stop}
+use Rattle.nal_unit.specs.PutCode.{Put, pieces-first, pieces-room, pieces}
+use Rattle.nal_unit.specs.CountCode.{Counts}
 use Rattle.ycbcr_image.specs.declared.BitDepth.{BitDepth}
 use Rattle.ycbcr_image.specs.declared.BitDepth.the-variants.{Depth8, Depth12}
 use Rattle.ycbcr_image.specs.declared.Kind.{Kind}

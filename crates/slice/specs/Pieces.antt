@@ -13,7 +13,9 @@ use lib.ListN.{length, length-append}
 use Rattle.lists.specs.Fill.{splice-over, splice-length}
 use Rattle.lists.specs.Part.{part, splice-part}
 use Rattle.nal_unit.specs.Escape.{escFrom}
-use Rattle.nal_unit.specs.EscapeCode.{counted, counted-before, Put, Escaping, begin, turn, turn-room, end, esc-least, Counts, Counting, count-begin, count-turn, count-end}
+use Rattle.nal_unit.specs.EscapeCode.{counted, counted-before, esc-least}
+use Rattle.nal_unit.specs.PutCode.{Put, Escaping, begin, turn, turn-room, end}
+use Rattle.nal_unit.specs.CountCode.{Counts, Counting, count-begin, count-turn, count-end}
 use Rattle.slice.specs.Cat.{cat, cat-more, cat-none, cat-append}
 use Rattle.slice.specs.Laid.{Laid}
 

@@ -8,7 +8,7 @@ ghost use mathlib.Core.Path.{_≡_};
 ghost use Prim.Native.Nat.{_+_, _*_, _≤_, _<_};
 ghost use lib.ListN.{length};
 ghost use Rattle.nal_unit.specs.Escape.{esc};
-ghost use Rattle.nal_unit.specs.EscapeCode.{Counts};
+ghost use Rattle.nal_unit.specs.CountCode.{Counts};
 ghost use Rattle.ycbcr_image.specs.Sizes.{sequenceOf, picWidthInMbs, frameHeightInMbs};
 ghost use Rattle.slice.specs.Cat.{cat};
 ghost use Rattle.slice.specs.Picture.{pictureOf};

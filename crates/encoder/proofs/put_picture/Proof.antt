@@ -2,7 +2,7 @@
 use native.Mathlib.Omega.{arith}
 use lib.ListN.{length}
 use borrow.Author.Needs.{needs}
-use Rattle.nal_unit.specs.EscapeCode.{frame-room, frame-put}
+use Rattle.nal_unit.specs.UnitCode.{frame-room, frame-put}
 use Rattle.ycbcr_image.specs.Sizes.{sequenceOf}
 use Rattle.slice.specs.Picture.{pictureOf}
 use Rattle.slice.specs.Macroblocks.{lends}

@@ -3,7 +3,7 @@ use Prim.Native.Nat.{_+_, _≤_}
 use native.Mathlib.Omega.{arith}
 use lib.ListN.{length}
 use borrow.Author.Needs.{needs}
-use Rattle.nal_unit.specs.EscapeCode.{framed, framed-length}
+use Rattle.nal_unit.specs.UnitCode.{framed, framed-length}
 use Rattle.ycbcr_image.specs.Sizes.{sequenceOf}
 use Rattle.parameter_sets.specs.Sps.{spsPayload, baseLevel}
 use Rattle.parameter_sets.specs.Answers.{holds-room}

@@ -7,7 +7,7 @@ use lib.ListN.{length}
 use borrow.Author.Needs.{needs}
 use borrow.Author.Tests.{leb-true, leb-false, not-true, not-false}
 use Rattle.nal_unit.specs.Escape.{esc}
-use Rattle.nal_unit.specs.EscapeCode.{whole, put-whole}
+use Rattle.nal_unit.specs.PutCode.{whole, put-whole}
 use Rattle.nal_unit.specs.Answers.{escaped-room, escaped-none}
 use Rattle.nal_unit.specs.declared.Escaped.the-variants.{Written}
 use Rattle.nal_unit.proofs.rbsp_to_ebsp.Statement.{statement}

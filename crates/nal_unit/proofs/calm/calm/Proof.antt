@@ -10,7 +10,7 @@ use lib.ListN.{getD}
 use borrow.Author.Needs.{needs}
 use borrow.Author.Tests.{eq-eqb, ne-eqb}
 use Rattle.nal_unit.specs.ListsCode.{Flag, flag-start, flag-keep, flag-raise, flag-end}
-use Rattle.nal_unit.specs.EscapeCode.{plainAt, plain-bits}
+use Rattle.nal_unit.specs.CalmCode.{plainAt, plain-bits}
 use Rattle.nal_unit.proofs.calm.calm.Statement.{statement}
 use Rattle.nal_unit.proofs.calm.calm.Tie as tie
 

@@ -4,7 +4,7 @@ use Prim.Native.Nat.{_+_, _-_, _≤_}
 use lib.ListN.{getD}
 use borrow.Author.Needs.{needs}
 use Rattle.nal_unit.specs.ListsCode.{Flag, flag-start, flag-or, flag-end}
-use Rattle.nal_unit.specs.EscapeCode.{zeroAt}
+use Rattle.nal_unit.specs.CalmCode.{zeroAt}
 use Rattle.nal_unit.proofs.calm.void.Statement.{statement}
 use Rattle.nal_unit.proofs.calm.void.Tie as tie
 

@@ -1,7 +1,8 @@
 -- `nal_unit::count::count64` meets its contract: a quiet stretch is its own escape, 64 zeros take 96 bytes, and the byte loop counts any other. Assumes nothing.
 use mathlib.Core.Path.{sym, _∙_}
 use borrow.Author.Needs.{needs}
-use Rattle.nal_unit.specs.EscapeCode.{quiet-part, counts-quiet, zero-part, counts-blanks}
+use Rattle.nal_unit.specs.CalmCode.{quiet-part, zero-part}
+use Rattle.nal_unit.specs.CountCode.{counts-quiet, counts-blanks}
 use Rattle.nal_unit.proofs.count.count64.Statement.{statement}
 use Rattle.nal_unit.proofs.count.count64.Tie as tie
 

@@ -4,7 +4,8 @@ use Prim.Native.Nat.{_+_}
 use native.Mathlib.Omega.{arith}
 use borrow.Author.Needs.{needs}
 use borrow.Author.Tests.{eq-eqb, ne-eqb}
-use Rattle.nal_unit.specs.EscapeCode.{inserts-high, inserts-few, inserts-here, counts-hit, counts-plain}
+use Rattle.nal_unit.specs.EscapeCode.{inserts-high, inserts-few, inserts-here}
+use Rattle.nal_unit.specs.CountCode.{counts-hit, counts-plain}
 use Rattle.nal_unit.proofs.count.count_byte.Statement.{statement}
 use Rattle.nal_unit.proofs.count.count_byte.Tie as tie
 

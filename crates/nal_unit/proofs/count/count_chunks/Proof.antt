@@ -5,7 +5,7 @@ use native.Mathlib.Omega.{arith}
 use lib.ListN.{length}
 use borrow.Author.Needs.{needs}
 use Rattle.lists.specs.Part.{part, part-length}
-use Rattle.nal_unit.specs.EscapeCode.{Counts, counts-fit, Passing, passing-start, passing-turn, passing-end}
+use Rattle.nal_unit.specs.CountCode.{Counts, counts-fit, Passing, passing-start, passing-turn, passing-end}
 use Rattle.nal_unit.proofs.count.count_chunks.Statement.{statement}
 use Rattle.nal_unit.proofs.count.count_chunks.Tie as tie
 

@@ -5,7 +5,9 @@ use native.Mathlib.Omega.{arith}
 use borrow.Author.Needs.{needs}
 use Rattle.lists.specs.Part.{part, part-length}
 use Rattle.nal_unit.specs.ListsCode.{part-cut}
-use Rattle.nal_unit.specs.EscapeCode.{Counts, counts-fit, counts-pieces, first-two, end-most}
+use Rattle.nal_unit.specs.EscapeCode.{end-most}
+use Rattle.nal_unit.specs.CalmCode.{first-two}
+use Rattle.nal_unit.specs.CountCode.{Counts, counts-fit, counts-pieces}
 use Rattle.nal_unit.proofs.count.count_slice.Statement.{statement}
 use Rattle.nal_unit.proofs.count.count_slice.Tie as tie
 

@@ -5,7 +5,9 @@ use lib.ListN.{replicate}
 use borrow.Author.Needs.{needs}
 use Rattle.lists.specs.Part.{part, part-length}
 use Rattle.nal_unit.specs.ListsCode.{splice-part, part-splice}
-use Rattle.nal_unit.specs.EscapeCode.{counted, counted-most, quiet-part, put-quiet}
+use Rattle.nal_unit.specs.EscapeCode.{counted, counted-most}
+use Rattle.nal_unit.specs.CalmCode.{quiet-part}
+use Rattle.nal_unit.specs.PutCode.{put-quiet}
 use Rattle.nal_unit.proofs.fast.mend.Statement.{statement}
 use Rattle.nal_unit.proofs.fast.mend.Tie as tie
 

@@ -7,7 +7,9 @@ use borrow.Author.Needs.{needs}
 use Rattle.lists.specs.Part.{part, part-length}
 use Rattle.lists.specs.Test.{either}
 use Rattle.nal_unit.specs.Escape.{escFrom}
-use Rattle.nal_unit.specs.EscapeCode.{counted, counted-most, esc-least, quiet-part, put-quiet, blanks, blanks-size, zero-part}
+use Rattle.nal_unit.specs.EscapeCode.{counted, counted-most, esc-least}
+use Rattle.nal_unit.specs.CalmCode.{quiet-part, blanks, blanks-size, zero-part}
+use Rattle.nal_unit.specs.PutCode.{put-quiet}
 use Rattle.nal_unit.proofs.fast.put64.Statement.{statement}
 use Rattle.nal_unit.proofs.fast.put64.Tie as tie
 

@@ -2,7 +2,7 @@
 use Prim.Native.Nat.{_-_}
 use native.Mathlib.Omega.{arith}
 use borrow.Author.Needs.{needs}
-use Rattle.nal_unit.specs.EscapeCode.{Along, along-start, along-room, along-turn, along-end}
+use Rattle.nal_unit.specs.PutCode.{Along, along-start, along-room, along-turn, along-end}
 use Rattle.nal_unit.proofs.fast.put_chunks.Statement.{statement}
 use Rattle.nal_unit.proofs.fast.put_chunks.Tie as tie
 

@@ -8,7 +8,9 @@ use borrow.Author.Needs.{needs}
 use Rattle.lists.specs.Part.{part, part-length}
 use Rattle.nal_unit.specs.ListsCode.{part-cut}
 use Rattle.nal_unit.specs.Escape.{escFrom}
-use Rattle.nal_unit.specs.EscapeCode.{counted, counted-most, esc-least, put-count, first-two, pieces-first, pieces-room, pieces}
+use Rattle.nal_unit.specs.EscapeCode.{counted, counted-most, esc-least}
+use Rattle.nal_unit.specs.CalmCode.{first-two}
+use Rattle.nal_unit.specs.PutCode.{put-count, pieces-first, pieces-room, pieces}
 use Rattle.nal_unit.proofs.fast.put_slice.Statement.{statement}
 use Rattle.nal_unit.proofs.fast.put_slice.Tie as tie
 

@@ -3,7 +3,8 @@ use Prim.Native.Nat.{_-_, _≤_}
 use native.Mathlib.Omega.{arith}
 use borrow.Author.Needs.{needs}
 use Rattle.nal_unit.specs.ListsCode.{Copied, copy-start, copy-turn, copy-end}
-use Rattle.nal_unit.specs.EscapeCode.{triples, triples-length, blanks-two, put-blanks}
+use Rattle.nal_unit.specs.CalmCode.{triples, triples-length, blanks-two}
+use Rattle.nal_unit.specs.PutCode.{put-blanks}
 use Rattle.nal_unit.proofs.fast.put_zeros2.Statement.{statement}
 use Rattle.nal_unit.proofs.fast.put_zeros2.Tie as tie
 

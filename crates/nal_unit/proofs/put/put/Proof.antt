@@ -6,7 +6,8 @@ use native.Mathlib.Omega.{arith}
 use lib.ListN.{length, length-set}
 use borrow.Author.Needs.{needs}
 use Rattle.nal_unit.specs.Escape.{inserts}
-use Rattle.nal_unit.specs.EscapeCode.{counted, put-hit, put-plain, esc-hit, esc-plain}
+use Rattle.nal_unit.specs.EscapeCode.{counted, esc-hit, esc-plain}
+use Rattle.nal_unit.specs.PutCode.{put-hit, put-plain}
 use Rattle.nal_unit.proofs.put.put.Statement.{statement}
 use Rattle.nal_unit.proofs.put.put.Tie as tie
 

@@ -1,25 +1,29 @@
 -- `nal_unit::rows::load` meets its contract: after k turns, k bytes of the row are filled. Assumes nothing.
-use mathlib.Core.Path.{_≡_}
+use mathlib.Core.Path.{_≡_, _∙_}
 use Prim.Native.Nat.{_-_, _≤_}
 use native.Mathlib.Nat.{zero-add}
 use native.Mathlib.Omega.{arith}
 use lib.ListN.{length}
 use borrow.Author.Needs.{needs}
-use Rattle.nal_unit.specs.Copying.{Copied, copied-none, copied-next, copied-length, copied-row}
+use Rattle.lists.specs.Part.{part, part-length}
+use Rattle.nal_unit.specs.ListsCode.{Copied, copy-start, copy-part, copy-end, splice-whole}
 use Rattle.nal_unit.proofs.rows.load.Statement.{statement}
 use Rattle.nal_unit.proofs.rows.load.Tie as tie
 
 abbrev Inv-loop : tie.InvT-loop
-Inv-loop s p row₀ k₀ row k = (k ≤ length row₀) × Copied row₀ 0 s p k row
+Inv-loop s p row₀ k₀ row k = (k ≤ length row₀) × Copied row₀ 0 (part s p (length row₀)) row k
 
 abbrev μ-loop : tie.MeasureT-loop
 μ-loop s p row₀ k₀ row k = length row₀ - k
 
+wide : (c : tie.Start Inv-loop μ-loop) → length (part (c .args .s .now) (c .args .p) (length (c .args .row .now))) ≡ length (c .args .row .now)
+wide c = part-length (c .args .s .now) (c .args .p) (length (c .args .row .now)) (c .pre)
+
 long : (c : tie.At-loop Inv-loop μ-loop) → length (c .loop .row) ≡ length (c .before .args .row .now)
-long c = copied-length (c .loop .inv .1)
+long c = c .loop .inv .1 .writing .long
 
 loop-holds : tie.Need-loop-holds Inv-loop μ-loop
-loop-holds c = (search needs, copied-none (c .args .row .now) 0 (c .args .s .now) (c .args .p) (omega arith) (omega arith))
+loop-holds c = (search needs, copy-start (c .args .row .now) 0 (part (c .args .s .now) (c .args .p) (length (c .args .row .now))) (omega (arith, wide c)))
 
 add-row : tie.Need-add-row Inv-loop μ-loop
 add-row c = omega (arith, long (c .before))
@@ -39,8 +43,9 @@ loop-less c = omega (arith, long (c .before .before))
 loop-again : tie.Need-loop-again Inv-loop μ-loop
 loop-again c =
     let k = c .before .before in
+    let a = k .before in
     let l = long k in
-    (omega arith, rw (zero-add (k .loop .k)) at (copied-next (k .loop .inv .1) (omega arith) (omega arith)))
+    (omega arith, rw (zero-add (k .loop .k)) at (copy-part (a .args .s .now) (a .args .p) (length (a .args .row .now)) (k .loop .inv .1) (a .pre) (omega arith)))
 
 same-length : tie.Need-same-length Inv-loop μ-loop
 same-length c = long (c .before)
@@ -48,8 +53,8 @@ same-length c = long (c .before)
 returns : tie.Need-returns Inv-loop μ-loop
 returns c =
     let k = c .before in
-    let e : k .loop .k ≡ length (k .before .args .row .now) = omega (arith, long k) in
-    copied-row (rw e at (k .loop .inv .1)) (omega arith)
+    let w = wide (k .before) in
+    copy-end (k .loop .inv .1) (omega (arith, long k)) ∙ splice-whole (k .before .args .row .now) (part (k .before .args .s .now) (k .before .args .p) (length (k .before .args .row .now))) w
 
 pub load-spec : {M : Type 1} → statement M
 load-spec =

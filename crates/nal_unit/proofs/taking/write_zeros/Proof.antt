@@ -1,25 +1,24 @@
 -- `nal_unit::taking::write_zeros` meets its contract: after k turns, k of a row of zeros are written. Assumes nothing.
 use mathlib.Core.Path.{_≡_}
 use Prim.Native.Nat.{ℕ, _-_, _≤_}
-use native.Mathlib.Nat.{zero-add}
 use native.Mathlib.Omega.{arith}
 use lib.ListN.{length, replicate, length-replicate, getD-replicate}
 use borrow.Author.Needs.{needs}
-use Rattle.nal_unit.specs.Copying.{Copied, copied-none, copied-next, copied-length, copied-out}
+use Rattle.nal_unit.specs.ListsCode.{Copied, copy-start, copy-turn, copy-end}
 use Rattle.nal_unit.proofs.taking.write_zeros.Statement.{statement}
 use Rattle.nal_unit.proofs.taking.write_zeros.Tie as tie
 
 abbrev Inv-loop : tie.InvT-loop
-Inv-loop out₀ at n k₀ out k = (k ≤ n) × Copied out₀ at (replicate n 0) 0 k out
+Inv-loop out₀ at n k₀ out k = (k ≤ n) × Copied out₀ at (replicate n 0) out k
 
 abbrev μ-loop : tie.MeasureT-loop
 μ-loop out₀ at n k₀ out k = n - k
 
 long : (c : tie.At-loop Inv-loop μ-loop) → length (c .loop .out) ≡ length (c .before .args .out .now)
-long c = copied-length (c .loop .inv .1)
+long c = c .loop .inv .1 .writing .long
 
 loop-holds : tie.Need-loop-holds Inv-loop μ-loop
-loop-holds c = (search needs, copied-none (c .args .out .now) (c .args .at) (replicate (c .args .n) 0) 0 (omega arith) (omega arith))
+loop-holds c = (search needs, copy-start (c .args .out .now) (c .args .at) (replicate (c .args .n) 0) (omega (arith, length-replicate {A = ℕ} (c .args .n) 0)))
 
 add-out : tie.Need-add-out Inv-loop μ-loop
 add-out c = search needs
@@ -37,14 +36,14 @@ loop-again : tie.Need-loop-again Inv-loop μ-loop
 loop-again c =
     let k = c .before in
     let a = k .before .args in
-    let g = copied-next (k .loop .inv .1) (omega (arith, length-replicate {A = ℕ} (a .n) 0)) (omega arith) in
-    (omega arith, rw (zero-add (k .loop .k), getD-replicate {A = ℕ} (a .n) (k .loop .k) 0 0 (c .loop-test .taken)) at g)
+    let g = copy-turn (k .loop .inv .1) (omega (arith, length-replicate {A = ℕ} (a .n) 0)) in
+    (omega arith, rw (getD-replicate {A = ℕ} (a .n) (k .loop .k) 0 0 (c .loop-test .taken)) at g)
 
 same-length : tie.Need-same-length Inv-loop μ-loop
 same-length c = long (c .before)
 
 returns : tie.Need-returns Inv-loop μ-loop
-returns c = copied-out (c .before .loop .inv .1) (omega (arith, length-replicate {A = ℕ} (c .before .before .args .n) 0))
+returns c = copy-end (c .before .loop .inv .1) (omega (arith, length-replicate {A = ℕ} (c .before .before .args .n) 0))
 
 pub write-zeros-spec : {M : Type 1} → statement M
 write-zeros-spec =

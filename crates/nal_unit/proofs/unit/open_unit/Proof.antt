@@ -1,7 +1,7 @@
 -- `nal_unit::unit::open_unit` meets its contract: four bytes copied and one store. Assumes nothing.
 use mathlib.Core.Path.{refl}
 use borrow.Author.Needs.{needs}
-use Rattle.nal_unit.specs.EscapeCode.{open-put}
+use Rattle.nal_unit.specs.UnitCode.{open-put}
 use Rattle.nal_unit.proofs.unit.open_unit.Statement.{statement}
 use Rattle.nal_unit.proofs.unit.open_unit.Tie as tie
 

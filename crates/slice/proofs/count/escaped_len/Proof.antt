@@ -1,7 +1,7 @@
 -- `slice::count::escaped_len` meets its contract: the macroblocks, and one byte more, which is never escaped. Assumes nothing.
 use native.Mathlib.Omega.{arith}
 use borrow.Author.Needs.{needs}
-use Rattle.nal_unit.specs.EscapeCode.{counts-fit}
+use Rattle.nal_unit.specs.CountCode.{counts-fit}
 use Rattle.ycbcr_image.specs.Sizes.{sequenceOf}
 use Rattle.slice.specs.Macroblocks.{lends, rows-most, picture-counted}
 use Rattle.slice.proofs.count.escaped_len.Statement.{statement}
