@@ -33,7 +33,7 @@ use Rattle.nal_unit.specs.declared.scan.UnitScan.{UnitScan}
 -- Tests on bytes
 
 -- an exclusive or is zero where both are equal
-pub xor-zero : (a b : ℕ) → eqb (bitXor a b) 0 ≡ eqb a b
+xor-zero : (a b : ℕ) → eqb (bitXor a b) 0 ≡ eqb a b
 xor-zero a b = by (eqb a b) refl
   where
     by : (p : Bool) → eqb a b ≡ p → eqb (bitXor a b) 0 ≡ p
@@ -41,7 +41,7 @@ xor-zero a b = by (eqb a b) refl
     by false e = ne-eqb (bitXor a b) 0 (λ z. eqb-false a b e (omega (arith, xor-add-and a b, and-le-l a b, and-le-r a b)))
 
 -- three bytes that begin with two zeros
-pub or-three : (a b c : ℕ) → eqb (bitOr (bitOr a b) c) 0 ≡ eqb a 0 && (eqb b 0 && eqb c 0)
+or-three : (a b c : ℕ) → eqb (bitOr (bitOr a b) c) 0 ≡ eqb a 0 && (eqb b 0 && eqb c 0)
 or-three a b c = or-zero (bitOr a b) c ∙ ap (λ (p : Bool). p && eqb c 0) (or-zero a b) ∙ and-assoc (eqb a 0) (eqb b 0) (eqb c 0)
 
 -- a byte is 03 or less where its six high bits are zero
