@@ -3,8 +3,7 @@ ghost use mathlib.Core.Path.{_≡_};
 ghost use Prim.Native.Nat.{_+_};
 ghost use lib.ListN.{drop};
 ghost use Rattle.nal_unit.specs.StartCode.{next};
-ghost use Rattle.nal_unit.specs.Answers.{lengthOf, escapedOf, escapedOut};
-ghost use Rattle.nal_unit.specs.UnescapeCode.{unescapedLength, unescapeOf, unescapedOut};
+ghost use Rattle.nal_unit.specs.Answers.{lengthOf, escapedOf, escapedOut, unescapedLength, unescapeOf, unescapedOut};
 use nal_unit::Escaped;
 use nal_unit::unescape::Unescaped;
 

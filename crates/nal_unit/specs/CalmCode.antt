@@ -6,7 +6,7 @@
 -- Assumes nothing.
 use mathlib.Core.Path.{_≡_, refl, sym, _∙_}
 use mathlib.Core.List.{List, [], _∷_}
-use mathlib.Core.Bool.{Bool, true, false, not, _&&_, true≢false}
+use mathlib.Core.Bool.{Bool, true, false, not, _&&_, true≢false, and-assoc}
 use Prim.Native.Nat.{ℕ, zero, suc, _+_, _*_, _/_, _%_, _≤_, _<_}
 use native.Mathlib.Nat.{mod-eq-of-lt}
 use native.Mathlib.Numerals.{add-one}
@@ -17,7 +17,7 @@ use lib.ListN.{length, getD, replicate}
 use borrow.Author.Tests.{eqb-true, not-true, le-leb, lt-leb, eq-eqb, ne-eqb}
 use Rattle.lists.specs.Part.{part, part-none, part-cons}
 use Rattle.lists.specs.Test.{either}
-use Rattle.nal_unit.specs.ListsCode.{and-assoc, or-zero, every}
+use Rattle.nal_unit.specs.ListsCode.{or-zero, every}
 use Rattle.nal_unit.specs.Escape.{inserts, emit, zeros, escFrom, zerosEnd}
 use Rattle.nal_unit.specs.EscapeCode.{zeros-most, runEnd, counted, counted-step, inserts-at, zeros-plain, zeros-run, end-run, run-part}
 

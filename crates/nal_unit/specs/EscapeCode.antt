@@ -5,7 +5,7 @@
 -- Assumes nothing.
 use mathlib.Core.Path.{_≡_, refl, sym, ap, _∙_}
 use mathlib.Core.List.{List, [], _∷_, _++_, append-assoc}
-use mathlib.Core.Bool.{Bool, true, false, cond, _&&_, true≢false}
+use mathlib.Core.Bool.{Bool, true, false, cond, _&&_, true≢false, and-false}
 use Prim.Native.Nat.{ℕ, zero, suc, _+_, _≤_, _<_}
 use native.Mathlib.Numerals.{add-one}
 use native.Mathlib.Omega.{arith}
@@ -16,7 +16,6 @@ use borrow.Author.Tests.{le-leb, lt-leb, ne-eqb}
 use Rattle.lists.specs.Fill.{splice}
 use Rattle.lists.specs.Part.{part, part-cons}
 use Rattle.lists.specs.Test.{either}
-use Rattle.nal_unit.specs.ListsCode.{and-false}
 use Rattle.nal_unit.specs.Escape.{inserts, emit, zeros, escFrom, zerosEnd, esc-nil}
 
 -- whether 03 goes before a byte

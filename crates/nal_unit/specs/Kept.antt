@@ -6,6 +6,7 @@
 --     kept s p e        the bytes of s from p up to e that are not: what that stretch holds of the payload
 --     insCount s p e    how many are
 --     kept-un           from behind a unit's header up to its end, what is kept is its payload
+--     un-kept, un-few   bytes with no header before them: the first two are payload whatever they are, and what is kept from the third on is the rest
 --     kept-more, kept-plain, kept-end    a stretch by its first byte; count-step, count-end the same of the count
 --     kept-length       what is kept and what was inserted are the stretch
 --     kept-append       two stretches side by side; count-append the same of the count
@@ -22,6 +23,7 @@ use native.Mathlib.Nat.{zero-add}
 use native.Mathlib.Omega.{arith}
 use lib.Dec.{leb, eqb, leb·suc-suc}
 use lib.ListN.{length, drop, getD, length-append}
+use lib.Seq.{take-length}
 use borrow.Author.Tests.{le-leb, eqb-true, ne-eqb}
 use Rattle.lists.specs.Part.{part, part-cons, part-none, part-length}
 use Rattle.lists.specs.Test.{either}
@@ -93,6 +95,21 @@ kept-un s o e h l i =
     let n : eqb (getD s o 0) 0 ≡ false = ne-eqb (getD s o 0) 0 (λ z. omega arith) in
     rw (f, part-cons s o (e - (o + 1)) (omega arith), g)
     (sym (keep-un (getD s (o + 1 - 2) 0) (getD s o 0) 0 (part s (o + 1) (e - (o + 1))) record { two = rw n (sym (and-false (eqb (getD s (o + 1 - 2) 0) 0))); one = sym n }))
+
+-- The payload of bytes with no header before them: their first two, and what is kept behind these; fewer than two are all of it.
+pub un-kept : (s : List ℕ) → 2 ≤ length s → un s ≡ part s 0 2 ++ kept s 2 (length s)
+unfolding kept keep ins part
+un-kept [] h = absurd (omega arith)
+un-kept (x ∷ []) h = absurd (omega arith)
+un-kept (x ∷ y ∷ t) h =
+    let f : suc (suc (length t)) - 2 ≡ length t = omega arith in
+    keep-un 1 1 0 (x ∷ y ∷ t) record { two = refl; one = refl } ∙ rw (f, take-length t) refl
+
+pub un-few : (s : List ℕ) → length s < 2 → un s ≡ s
+unfolding unFrom inserted
+un-few [] h = refl
+un-few (x ∷ []) h = refl
+un-few (x ∷ y ∷ t) h = absurd (omega arith)
 
 -- A stretch by its first byte
 

@@ -7,34 +7,30 @@
 -- Assumes nothing.
 use mathlib.Core.Path.{_≡_, refl, sym, ap, _∙_}
 use mathlib.Core.List.{List, [], _++_, append-nil}
-use mathlib.Core.Bool.{Bool, true, false, _&&_}
+use mathlib.Core.Bool.{Bool, true, false, _&&_, and-true, and-false, and-assoc}
 use Prim.Native.Nat.{ℕ, zero, suc, _+_, _-_, _≤_, _<_}
 use native.Mathlib.Nat.{zero-add, add-zero, sub-zero}
 use native.Mathlib.Numerals.{add-one}
 use native.Mathlib.Omega.{arith}
 use lib.Dec.{eqb, eqb·suc-zero}
-use lib.Bits.{bitOr, or-zero-l, or-add-and, and-le-r}
+use lib.Bits.{bitOr, bitXor, or-zero-l, or-add-and, xor-add-and, xor-self, and-le-l, and-le-r}
 use lib.ListN.{length, take, drop, getD, set, drop-of-length-le, take-append-drop}
 use lib.Seq.{drop-length, drop-drop, drop-at, take-at, length-take-le}
-use borrow.Author.Tests.{ne-eqb}
+use borrow.Author.Tests.{eqb-true, eqb-false, eq-eqb, ne-eqb}
 use Rattle.lists.specs.Fill.{splice, Writing, start-at, put, done-at}
 use Rattle.lists.specs.Part.{part, part-length, part-at, part-append, drop-step}
 
-pub and-false : (b : Bool) → b && false ≡ false
-and-false true = refl
-and-false false = refl
-
-pub and-true : (b : Bool) → b && true ≡ b
-and-true true = refl
-and-true false = refl
-
-pub and-assoc : (a b c : Bool) → (a && b) && c ≡ a && (b && c)
-and-assoc true b c = refl
-and-assoc false b c = refl
-
+-- an or is zero where both are, an exclusive or where both are equal
 pub or-zero : (a b : ℕ) → eqb (bitOr a b) 0 ≡ eqb a 0 && eqb b 0
 or-zero zero b = rw (or-zero-l b) refl
 or-zero (suc a) b = rw (ne-eqb (bitOr (suc a) b) 0 (λ e. omega (arith, or-add-and (suc a) b, and-le-r (suc a) b)), eqb·suc-zero a) refl
+
+pub xor-zero : (a b : ℕ) → eqb (bitXor a b) 0 ≡ eqb a b
+xor-zero a b = by (eqb a b) refl
+  where
+    by : (p : Bool) → eqb a b ≡ p → eqb (bitXor a b) 0 ≡ p
+    by true e = eq-eqb (bitXor a b) 0 (ap (λ (x : ℕ). bitXor x b) (eqb-true a b e) ∙ xor-self b)
+    by false e = ne-eqb (bitXor a b) 0 (λ z. eqb-false a b e (omega (arith, xor-add-and a b, and-le-l a b, and-le-r a b)))
 
 pub part-end : (s : List ℕ) (p n k : ℕ) → p + n ≤ length s → n ≤ k → drop k (part s p n) ≡ []
 part-end s p n k h l =

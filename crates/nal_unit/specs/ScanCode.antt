@@ -14,13 +14,13 @@ use Prim.Native.Nat.{ℕ, zero, suc, _+_, _-_, _*_, _/_, _≤_, _<_}
 use native.Mathlib.Nat.{add-zero, add-assoc, mod-eq-of-lt}
 use native.Mathlib.Omega.{arith}
 use lib.Dec.{leb, ltb, eqb, leb·suc-suc}
-use lib.Bits.{bitOr, bitXor, bitAnd, xor-add-and, xor-self, and-le-l, and-le-r, and-high}
+use lib.Bits.{bitOr, bitXor, bitAnd, and-high}
 use lib.ListN.{length, take, drop, getD, length-take, length-drop, drop-of-length-le, take-append-drop}
 use lib.Seq.{length-take-le, take-take, take-add, drop-drop, getD-take, getD-drop}
-use borrow.Author.Tests.{lt-ltb, eqb-true, eqb-false, eq-eqb, ne-eqb, le-leb, lt-leb, leb-true, leb-false}
+use borrow.Author.Tests.{lt-ltb, eqb-true, eq-eqb, ne-eqb, le-leb, lt-leb, leb-true, leb-false}
 use Rattle.lists.specs.Part.{part, drop-step}
 use Rattle.lists.specs.Test.{either}
-use Rattle.nal_unit.specs.ListsCode.{or-zero}
+use Rattle.nal_unit.specs.ListsCode.{or-zero, xor-zero}
 use Rattle.nal_unit.specs.Units.{code-fault}
 use Rattle.nal_unit.specs.StartCode.{code, next, code-first, next-le, next-past, next-there}
 use Rattle.nal_unit.specs.Scan.{code-at, next-step, trim-zero, trim-last, fault-at}
@@ -32,16 +32,8 @@ use Rattle.nal_unit.specs.declared.scan.UnitScan.{UnitScan}
 
 -- Tests on bytes
 
--- an exclusive or is zero where both are equal
-pub xor-zero : (a b : ℕ) → eqb (bitXor a b) 0 ≡ eqb a b
-xor-zero a b = by (eqb a b) refl
-  where
-    by : (p : Bool) → eqb a b ≡ p → eqb (bitXor a b) 0 ≡ p
-    by true e = eq-eqb (bitXor a b) 0 (ap (λ (x : ℕ). bitXor x b) (eqb-true a b e) ∙ xor-self b)
-    by false e = ne-eqb (bitXor a b) 0 (λ z. eqb-false a b e (omega (arith, xor-add-and a b, and-le-l a b, and-le-r a b)))
-
 -- three bytes that begin with two zeros
-pub or-three : (a b c : ℕ) → eqb (bitOr (bitOr a b) c) 0 ≡ eqb a 0 && (eqb b 0 && eqb c 0)
+or-three : (a b c : ℕ) → eqb (bitOr (bitOr a b) c) 0 ≡ eqb a 0 && (eqb b 0 && eqb c 0)
 or-three a b c = or-zero (bitOr a b) c ∙ ap (λ (p : Bool). p && eqb c 0) (or-zero a b) ∙ and-assoc (eqb a 0) (eqb b 0) (eqb c 0)
 
 -- a byte is 03 or less where its six high bits are zero

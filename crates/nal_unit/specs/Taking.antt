@@ -98,7 +98,7 @@ took-stretch {s} p e m n v i h k l f w g =
     record { bytes = rw (kept-split s p e m v i h k l f, take-at v (kept s m e) n w) g; place = pass-stretch p e m n v i h k l f w }
 
 -- the first n of m bytes among which a test finds no inserted one
-kept-flat : (s : List ℕ) (p m n : ℕ) → 1 ≤ p → n ≤ m → p + m ≤ length s → eqb (insCount s p (p + m)) 0 ≡ true → kept s p (p + n) ≡ part s p n
+pub kept-flat : (s : List ℕ) (p m n : ℕ) → 1 ≤ p → n ≤ m → p + m ≤ length s → eqb (insCount s p (p + m)) 0 ≡ true → kept s p (p + n) ≡ part s p n
 kept-flat s p m n i h l t =
     let w : p + n - p ≡ n = omega arith in
     let z = calm-part s p (p + m) p (p + n) i (omega arith) (omega arith) (omega arith) l (eqb-true (insCount s p (p + m)) 0 t) in

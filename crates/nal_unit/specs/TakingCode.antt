@@ -12,36 +12,21 @@ use mathlib.Core.Bool.{Bool, true, false, cond, _&&_, and-assoc, and-true, and-f
 use Prim.Native.Nat.{ℕ, zero, suc, _+_, _-_, _*_, _≤_, _<_}
 use native.Mathlib.Nat.{zero-add, add-zero, add-assoc}
 use native.Mathlib.Omega.{arith}
-use lib.Bits.{bitOr, bitXor, or-add-and, xor-add-and, xor-self, and-le-l, and-le-r}
+use lib.Bits.{bitOr, bitXor}
 use lib.Dec.{eqb}
 use lib.ListN.{length, take, drop, getD, set, replicate, length-append, length-drop, length-set, length-replicate, replicate-append-replicate}
 use lib.Seq.{drop-append-add, length-take-le, set-set, set-getD}
-use borrow.Author.Tests.{eqb-true, eqb-false, eq-eqb, ne-eqb}
+use borrow.Author.Tests.{eqb-true, ne-eqb}
 use Rattle.lists.specs.Fill.{splice, splice-none, splice-length}
+use Rattle.nal_unit.specs.ListsCode.{or-zero, xor-zero}
 use Rattle.nal_unit.specs.Kept.{ins, insAt, kept, insCount, kept-more, kept-plain, kept-end, kept-append, kept-length, kept-some, count-step, count-end, count-append}
 use Rattle.nal_unit.specs.Taking.{Next, Passed, pass-none, Took, took-next, took-more, took-stretch}
 
 -- The test of an inserted byte
 
--- no bit is set
-or-none : (m n : ℕ) → eqb (bitOr m n) 0 ≡ eqb m 0 && eqb n 0
-or-none m n = by (eqb m 0) (eqb n 0) refl refl
-  where
-    by : (a b : Bool) → eqb m 0 ≡ a → eqb n 0 ≡ b → eqb (bitOr m n) 0 ≡ a && b
-    by true true e f = eq-eqb (bitOr m n) 0 (omega (arith, eqb-true m 0 e, eqb-true n 0 f, or-add-and m n))
-    by true false e f = ne-eqb (bitOr m n) 0 (λ z. eqb-false n 0 f (omega (arith, or-add-and m n, and-le-l m n)))
-    by false b e f = ne-eqb (bitOr m n) 0 (λ z. eqb-false m 0 e (omega (arith, or-add-and m n, and-le-r m n)))
-
-xor-none : (m n : ℕ) → eqb (bitXor m n) 0 ≡ eqb m n
-xor-none m n = by (eqb m n) refl
-  where
-    by : (a : Bool) → eqb m n ≡ a → eqb (bitXor m n) 0 ≡ a
-    by true e = eq-eqb (bitXor m n) 0 (rw (eqb-true m n e) (xor-self n))
-    by false e = ne-eqb (bitXor m n) 0 (λ z. eqb-false m n e (omega (arith, xor-add-and m n, and-le-l m n, and-le-r m n)))
-
 pub ins-bits : (a b x : ℕ) → eqb (bitOr (bitOr a b) (bitXor x 3)) 0 ≡ ins a b x
 unfolding ins
-ins-bits a b x = rw (or-none (bitOr a b) (bitXor x 3), or-none a b, xor-none x 3) (and-assoc (eqb a 0) (eqb b 0) (eqb x 3))
+ins-bits a b x = rw (or-zero (bitOr a b) (bitXor x 3), or-zero a b, xor-zero x 3) (and-assoc (eqb a 0) (eqb b 0) (eqb x 3))
 
 -- the byte at q is an inserted one: it is 03, and the bytes at a and b, before it, are zeros
 ins-is : (s : List ℕ) (a b q : ℕ) → a + 2 ≡ q → b + 1 ≡ q → insAt s q ≡ true → (getD s a 0 ≡ 0) × (getD s b 0 ≡ 0) × (getD s q 0 ≡ 3)
@@ -248,7 +233,7 @@ pub pair-first : (s : List ℕ) (p : ℕ) → insAt s p ≡ true → eqb (bitOr 
 pair-first s p t h =
     let y = getD s (p + 1) 0 in
     let z = getD s (p + 2) 0 in
-    let v = and-eq-true-iff (eqb y 0) (eqb z 0) .0 (sym (or-none y z) ∙ h) in
+    let v = and-eq-true-iff (eqb y 0) (eqb z 0) .0 (sym (or-zero y z) ∙ h) in
     first t (eqb-true y 0 (v .0)) (eqb-true z 0 (v .1))
 
 -- before the inserted byte stand two zeros

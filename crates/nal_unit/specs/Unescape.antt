@@ -35,15 +35,6 @@ unFrom z (x ∷ xs) = cond (inserted z x) (unFrom 0 xs) (x ∷ unFrom (counted z
 abbrev pub un : List ℕ → List ℕ
 un xs = unFrom 0 xs
 
--- the definition, as laws
-pub un-nil : (z : ℕ) → unFrom z [] ≡ []
-unfolding unFrom
-un-nil z = refl
-
-pub un-cons : (z x : ℕ) (xs : List ℕ) → unFrom z (x ∷ xs) ≡ cond (inserted z x) (unFrom 0 xs) (x ∷ unFrom (counted z x) xs)
-unfolding unFrom
-un-cons z x xs = refl
-
 -- a 00 00 03 at the end is unescaped to two zeros
 pub un-end : un (0 ∷ 0 ∷ 3 ∷ []) ≡ 0 ∷ 0 ∷ []
 unfolding unFrom inserted counted

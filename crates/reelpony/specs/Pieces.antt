@@ -12,8 +12,7 @@ use Prim.Native.Nat.{ℕ}
 use lib.IntN.{ℤ}
 use Rattle.nal_unit.specs.declared.Escaped.{Escaped}
 use Rattle.nal_unit.specs.declared.unescape.Unescaped.{Unescaped}
-use Rattle.nal_unit.specs.Answers.{numberOf, lengthOf, escapedOf, escapedOut}
-use Rattle.nal_unit.specs.UnescapeCode.{unescapedNumber, unescapedLength, unescapeOf, unescapedOut}
+use Rattle.nal_unit.specs.Answers.{numberOf, lengthOf, escapedOf, escapedOut, unescapedNumber, unescapedLength, unescapeOf, unescapedOut}
 use Rattle.golomb.specs.declared.CodeWritten.{CodeWritten}
 use Rattle.golomb.specs.declared.UeRead.{UeRead}
 use Rattle.golomb.specs.declared.SeRead.{SeRead}

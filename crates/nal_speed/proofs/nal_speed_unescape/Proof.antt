@@ -1,7 +1,7 @@
 -- `nal_speed::nal_speed_unescape` meets its contract: what `unescape` ensures, with the length out of its answer. Assumes nothing.
 use mathlib.Core.Path.{ap, _∙_}
 use borrow.Author.Needs.{needs}
-use Rattle.nal_unit.specs.UnescapeCode.{unescapedLength}
+use Rattle.nal_unit.specs.Answers.{unescapedLength}
 use Rattle.nal_speed.proofs.nal_speed_unescape.Statement.{statement}
 use Rattle.nal_speed.proofs.nal_speed_unescape.Tie as tie
 

@@ -2,14 +2,13 @@
 -- Assumes nothing.
 use mathlib.Core.Path.{sym, _∙_, _≡_}
 use mathlib.Core.List.{List}
-use mathlib.Core.Bool.{_&&_}
+use mathlib.Core.Bool.{_&&_, and-false, and-true}
 use Prim.Native.Nat.{_-_, ℕ, _≤_}
 use native.Mathlib.Omega.{arith}
 use lib.Dec.{eqb, leb}
 use lib.ListN.{length, getD}
 use borrow.Author.Needs.{needs}
 use borrow.Author.Tests.{ne-eqb, eq-eqb, le-leb}
-use Rattle.nal_unit.specs.ListsCode.{and-false, and-true}
 use Rattle.nal_unit.specs.Escape.{inserts}
 use Rattle.nal_unit.specs.EscapeCode.{counted, inserts-high, inserts-few, counted-few, inserts-at}
 use Rattle.nal_unit.proofs.put.wants3.Statement.{statement}

@@ -1,32 +1,40 @@
 -- `nal_unit::unescape::put_byte` meets its contract. Assumes nothing.
-use mathlib.Core.Path.{_≡_, sym, _∙_}
-use mathlib.Core.Bool.{false}
-use Prim.Native.Nat.{_<_}
+use mathlib.Core.Path.{_≡_, refl, sym, ap, _∙_}
+use mathlib.Core.List.{[], _∷_}
+use Prim.Native.Nat.{_+_, _<_}
+use native.Mathlib.Nat.{add-zero}
 use native.Mathlib.Omega.{arith}
-use lib.ListN.{length}
+use lib.ListN.{length, getD}
 use borrow.Author.Needs.{needs}
-use Rattle.nal_unit.specs.UnescapeCode.{markAt, took-mark, took-keep, count-keep}
+use Rattle.lists.specs.Fill.{splice-none, set-splice}
+use Rattle.nal_unit.specs.Kept.{kept}
+use Rattle.nal_unit.specs.UnescapeCode.{unescapes-as, kept-mark, kept-byte}
 use Rattle.nal_unit.proofs.unescape.put_byte.Statement.{statement}
 use Rattle.nal_unit.proofs.unescape.put_byte.Tie as tie
 
-is-mark-requires : tie.Need-is-mark-requires
-is-mark-requires c κs = search needs
+inserted-at-requires : tie.Need-inserted-at-requires
+inserted-at-requires c κs = search needs
 
 returns : tie.Need-returns
 returns c =
     let a = c .before .before .before .before .args in
-    took-mark (a .s .now) (a .p) (a .out .now) (a .a) (sym (c .before .is-mark .ensures) ∙ c .if1 .taken)
+    let e = kept-mark (a .s .now) (a .p) (omega arith) (omega arith) (sym (c .before .inserted-at .ensures) ∙ c .if1 .taken) in
+    unescapes-as [] e (sym (splice-none (a .out .now) (a .a))) (sym (add-zero (a .a)))
 
 shared-slice-read-out : tie.Need-shared-slice-read-out
 shared-slice-read-out c = search needs
 
-kept : (c : tie.After-shared-slice-known2) → markAt (c .before .before .before .before .before .args .s .now) (c .before .before .before .before .before .args .p) ≡ false
-kept c = sym (c .before .before .is-mark .ensures) ∙ c .before .if1 .left
+abbrev S : tie.After-shared-slice-known2 → tie.Start
+S c = c .before .before .before .before .before
 
-room : (c : tie.After-shared-slice-known2) → c .before .before .before .before .before .args .a < length (c .before .before .before .before .before .args .out .now)
-room c =
-    let b = c .before .before .before .before .before in
-    omega (arith, b .pre .1, count-keep (b .args .s .now) (b .args .p) (kept c))
+-- the byte is of the payload
+byte : (c : tie.After-shared-slice-known2) → let a = S c .args in kept (a .s .now) (a .p) (a .p + 1) ≡ getD (a .s .now) (a .p) 0 ∷ []
+byte c =
+    let a = S c .args in
+    kept-byte (a .s .now) (a .p) (omega arith) (omega arith) (sym (c .before .before .inserted-at .ensures) ∙ c .before .if1 .left)
+
+room : (c : tie.After-shared-slice-known2) → S c .args .a < length (S c .args .out .now)
+room c = omega (arith, S c .pre .1, ap length (byte c))
 
 slice-write-out : tie.Need-slice-write-out
 slice-write-out c = room c
@@ -39,15 +47,14 @@ same-length c = search needs
 
 returns-2 : tie.Need-returns-2
 returns-2 c =
-    let e = c .before .before in
-    let a = e .before .before .before .args in
-    took-keep (a .s .now) (a .p) (a .out .now) (a .a) (kept c) (room c)
+    let a = S c .args in
+    unescapes-as (getD (a .s .now) (a .p) 0 ∷ []) (byte c) (set-splice (a .out .now) (a .a) (getD (a .s .now) (a .p) 0) (room c)) refl
 
 pub put-byte-spec : {M : Type 1} → statement M
 put-byte-spec =
     tie.close
     (tie.spec
-    is-mark-requires
+    inserted-at-requires
     returns
     shared-slice-read-out
     slice-write-out

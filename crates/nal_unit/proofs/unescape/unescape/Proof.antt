@@ -6,7 +6,7 @@ use native.Mathlib.Omega.{arith}
 use lib.ListN.{length}
 use borrow.Author.Tests.{lt-ltb, le-ltb, leb-true, leb-false, not-true, not-false}
 use borrow.Author.Needs.{needs}
-use Rattle.nal_unit.specs.UnescapeCode.{unescape-fault, unescape-short, unescape-fits, took-all}
+use Rattle.nal_unit.specs.Answers.{unescape-fault, unescape-short, unescape-fits}
 use Rattle.nal_unit.specs.ScanCode.{firstFault, fault-place}
 use Rattle.nal_unit.specs.Unescape.{un, fault}
 use Rattle.nal_unit.specs.declared.unescape.Unescaped.the-variants.{Written}
@@ -59,7 +59,7 @@ returns-3 c =
     let b = m .before .before .before .before .before .before in
     let s = b .args .ebsp .now in
     let e = unescape-fits s (b .args .out .now) (none (m .before .before)) (room m) in
-    let w = took-all (t .put-payload .ensures) in
+    let w = t .put-payload .ensures in
     (ap Written (w .0) ∙ sym e, rw e (w .1))
 
 pub unescape-spec : {M : Type 1} → statement M
