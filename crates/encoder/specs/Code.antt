@@ -12,11 +12,10 @@ use native.Mathlib.Omega.{arith}
 use lib.Dec.{leb}
 use lib.ListN.{length, length-append}
 use borrow.Author.Tests.{le-leb, lt-leb, eq-eqb, ne-eqb}
-use Rattle.lists.specs.Fill.{splice, splice-length}
+use Rattle.lists.specs.Fill.{splice, splice-length, splice-front}
 use Rattle.lists.specs.Part.{part, part-all}
 use Rattle.lists.specs.Test.{either}
 use Rattle.nal_unit.specs.Escape.{esc, escFrom, esc-most}
-use Rattle.nal_unit.specs.ListsCode.{splice-front}
 use Rattle.nal_unit.specs.Frame.{joined}
 use Rattle.nal_unit.specs.EscapeCode.{counted}
 use Rattle.nal_unit.specs.PutCode.{Put}

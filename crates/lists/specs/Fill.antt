@@ -5,15 +5,16 @@
 --     put, puts                one element, or a list, is written at n
 --     puts-room                what is still to come has room
 --     done, done-at            nothing is left to come: what the buffer holds
+--     splice-front, splice-whole     what is written from the first element on, and over all
 -- Assumes nothing.
 use mathlib.Core.Path.{_≡_, refl, sym, ap, _∙_}
-use mathlib.Core.List.{List, [], _∷_, _++_, append-assoc}
+use mathlib.Core.List.{List, [], _∷_, _++_, append-assoc, append-nil}
 use Prim.Native.Nat.{ℕ, _+_, _-_, _≤_, _<_}
 use native.Mathlib.Numerals.{add-one}
-use native.Mathlib.Nat.{add-zero, add-assoc}
+use native.Mathlib.Nat.{zero-add, add-zero, add-assoc}
 use native.Mathlib.Omega.{arith}
 use lib.ListN.{length, take, drop, getD, set, length-append, length-take, length-drop, take-append-drop, List·getD-append}
-use lib.Seq.{set-split, take-at, drop-at, take-add, drop-drop, length-take-le, take-append-seam, drop-append-seam, take-length, drop-append-add, getD-take, getD-drop, getD-append-add}
+use lib.Seq.{set-split, take-at, drop-at, take-add, drop-drop, length-take-le, take-append-seam, drop-append-seam, take-length, drop-length, drop-append-add, getD-take, getD-drop, getD-append-add}
 
 unfoldable pub splice : List ℕ → ℕ → List ℕ → List ℕ
 splice d at v = take at d ++ (v ++ drop (at + length v) d)
@@ -139,3 +140,11 @@ done-at {d} {out} {n} at w g h =
     let t : length (take at d) ≡ at = length-take-le at d h in
     let f : length (take at d ++ w) ≡ at + length w = rw (length-append (take at d) w, t) refl in
     (rw (done g .0, f) (append-assoc (take at d) w (drop (at + length w) d)), rw (done g .1) f)
+
+-- what is written from the first element on, and over all
+pub splice-front : (d v : List ℕ) → splice d 0 v ≡ v ++ drop (length v) d
+unfolding splice
+splice-front d v = rw (zero-add (length v)) refl
+
+pub splice-whole : (d v : List ℕ) → length v ≡ length d → splice d 0 v ≡ v
+splice-whole d v e = splice-front d v ∙ rw (e, drop-length d) (append-nil v)

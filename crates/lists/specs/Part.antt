@@ -2,14 +2,16 @@
 --     part s p n        the n elements of s from the place p on
 --     drop-step         what stands from i on is the element at i, then what stands from i + 1 on (as code counts)
 --     part-step         the same inside a part
+--     part-cut, part-rest, part-part     a part in two, what stands behind one, a part of a part
+--     splice-part, splice-own            what was written stands where it was written; a part written where it stands
 -- Assumes nothing.
-use mathlib.Core.Path.{_≡_, refl, sym, ap}
+use mathlib.Core.Path.{_≡_, refl, sym, ap, _∙_}
 use mathlib.Core.List.{List, [], _∷_, _++_}
 use Prim.Native.Nat.{ℕ, zero, suc, _+_, _-_, _≤_, _<_}
 use native.Mathlib.Nat.{zero-add, suc-add}
 use native.Mathlib.Numerals.{add-one}
 use native.Mathlib.Omega.{arith}
-use lib.ListN.{length, take, drop, getD, set, length-take, length-drop, take-append-drop}
+use lib.ListN.{length, take, drop, getD, set, length-take, length-drop, take-append-drop, drop-of-length-le}
 use lib.Seq.{drop-cons, drop-drop, take-add, take-take, take-nil, take-all, take-at, drop-at, take-append-le, drop-append-le, drop-append-add, getD-take, getD-drop, length-take-le}
 use Rattle.lists.specs.Fill.{splice}
 
@@ -101,3 +103,20 @@ part-right xs ys a l = rw (drop-append-add xs ys a) refl
 pub part-all : (s : List ℕ) (n : ℕ) → length s ≡ n → part s 0 n ≡ s
 unfolding part
 part-all s n h = take-all n s (omega arith)
+
+-- nothing is left of a part behind its last element
+pub part-end : (s : List ℕ) (p n k : ℕ) → p + n ≤ length s → n ≤ k → drop k (part s p n) ≡ []
+part-end s p n k h l =
+    let e : length (part s p n) ≤ k = omega (arith, part-length s p n h) in
+    drop-of-length-le (part s p n) e
+
+-- a part is its first m elements, then the others
+pub part-cut : (s : List ℕ) (p n m : ℕ) → m ≤ n → part s p n ≡ part s p m ++ part s (p + m) (n - m)
+part-cut s p n m h =
+    let e : n ≡ m + (n - m) = omega arith in
+    ap (λ (l : ℕ). part s p l) e ∙ part-append s p m (n - m)
+
+-- a part written where it stands changes nothing
+pub splice-own : (d : List ℕ) (at n : ℕ) → at + n ≤ length d → splice d at (part d at n) ≡ d
+unfolding splice
+splice-own d at n h = rw (part-length d at n h, ← part-rest d at n) (take-append-drop at d)

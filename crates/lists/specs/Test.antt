@@ -3,8 +3,9 @@
 --     at-below, all-at, all-true   the test at each number
 --     same             whether two lists are equal, for such a test
 --     either           one of two numbers is at most the other, or above it
+--     or-left .. and-right     what a test that failed says of its parts
 -- Assumes nothing.
-use mathlib.Core.Bool.{Bool, true, false, _&&_, and-eq-true-iff}
+use mathlib.Core.Bool.{Bool, true, false, _&&_, _||_, and-eq-true-iff}
 use mathlib.Core.List.{List, [], _∷_}
 use mathlib.Core.Path.{_≡_, refl}
 use Prim.Native.Nat.{ℕ, zero, suc, _≤_, _<_}
@@ -67,3 +68,20 @@ same-refl (x ∷ xs) = rw (eq-eqb x x refl, same-refl xs) refl
 
 pub either {ℓ} : {X : Type ℓ} (a b : ℕ) → (a ≤ b → X) → (b < a → X) → X
 either a b f g = elim (decLe a b) [ yes h ↦ f h | no h ↦ g (lt-of-not-le h) ]
+
+-- neither part of an "or" that failed holds; of an "and" that failed one part fails where the other holds
+pub or-left : (a b : Bool) → (a || b) ≡ false → a ≡ false
+or-left true b e = e
+or-left false b e = refl
+
+pub or-right : (a b : Bool) → (a || b) ≡ false → b ≡ false
+or-right true b e = cc
+or-right false b e = e
+
+pub and-left : (a b : Bool) → (a && b) ≡ false → b ≡ true → a ≡ false
+and-left true b e t = cc
+and-left false b e t = refl
+
+pub and-right : (a b : Bool) → (a && b) ≡ false → a ≡ true → b ≡ false
+and-right true b e t = e
+and-right false b e t = cc

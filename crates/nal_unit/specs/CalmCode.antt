@@ -17,7 +17,7 @@ use lib.ListN.{length, getD, replicate}
 use borrow.Author.Tests.{eqb-true, not-true, le-leb, lt-leb, eq-eqb, ne-eqb}
 use Rattle.lists.specs.Part.{part, part-none, part-cons}
 use Rattle.lists.specs.Test.{either}
-use Rattle.nal_unit.specs.ListsCode.{or-zero, every}
+use Rattle.lists.specs.Flag.{or-zero, every}
 use Rattle.nal_unit.specs.Escape.{inserts, emit, zeros, escFrom, zerosEnd}
 use Rattle.nal_unit.specs.EscapeCode.{zeros-most, runEnd, counted, counted-step, inserts-at, zeros-plain, zeros-run, end-run, run-part}
 

@@ -15,7 +15,6 @@ pub mod CalmCode
 pub mod PutCode
 pub mod CountCode
 pub mod UnitCode
-pub mod ListsCode
 pub mod Answers
 pub mod Kept
 pub mod Taking

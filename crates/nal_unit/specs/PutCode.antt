@@ -11,9 +11,8 @@ use Prim.Native.Nat.{ℕ, _+_, _-_, _≤_}
 use native.Mathlib.Nat.{zero-add, add-zero, sub-zero}
 use native.Mathlib.Omega.{arith}
 use lib.ListN.{length, take, drop, set}
-use Rattle.lists.specs.Fill.{splice, splice-length, set-splice, splice-splice, Writing, start-at, puts, puts-room, done-at}
+use Rattle.lists.specs.Fill.{splice, splice-length, set-splice, splice-splice, Writing, start-at, puts, puts-room, done-at, splice-front}
 use Rattle.lists.specs.Part.{part, part-append, part-all}
-use Rattle.nal_unit.specs.ListsCode.{splice-front}
 use Rattle.nal_unit.specs.Escape.{esc, inserts, escFrom, zerosEnd, esc-nil, esc-append}
 use Rattle.nal_unit.specs.EscapeCode.{counted, counted-most, counted-none, run-esc, counted-behind, esc-hit, esc-plain, end-run, counted-part}
 use Rattle.nal_unit.specs.CalmCode.{Quiet, quiet-esc, blanks}

@@ -20,7 +20,7 @@ use lib.Seq.{length-take-le, take-take, take-add, drop-drop, getD-take, getD-dro
 use borrow.Author.Tests.{lt-ltb, eqb-true, eq-eqb, ne-eqb, le-leb, lt-leb, leb-true, leb-false}
 use Rattle.lists.specs.Part.{part, drop-step}
 use Rattle.lists.specs.Test.{either}
-use Rattle.nal_unit.specs.ListsCode.{or-zero, xor-zero}
+use Rattle.lists.specs.Flag.{or-zero, xor-zero}
 use Rattle.nal_unit.specs.Units.{code-fault}
 use Rattle.nal_unit.specs.StartCode.{code, next, code-first, next-le, next-past, next-there}
 use Rattle.nal_unit.specs.Scan.{code-at, next-step, trim-zero, trim-last, fault-at}

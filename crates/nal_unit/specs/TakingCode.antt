@@ -18,7 +18,7 @@ use lib.ListN.{length, take, drop, getD, set, replicate, length-append, length-d
 use lib.Seq.{drop-append-add, length-take-le, set-set, set-getD}
 use borrow.Author.Tests.{eqb-true, ne-eqb}
 use Rattle.lists.specs.Fill.{splice, splice-none, splice-length}
-use Rattle.nal_unit.specs.ListsCode.{or-zero, xor-zero}
+use Rattle.lists.specs.Flag.{or-zero, xor-zero}
 use Rattle.nal_unit.specs.Kept.{ins, insAt, kept, insCount, kept-more, kept-plain, kept-end, kept-append, kept-length, kept-some, count-step, count-end, count-append}
 use Rattle.nal_unit.specs.Taking.{Next, Passed, pass-none, Took, took-next, took-more, took-stretch}
 

@@ -11,8 +11,7 @@ use Prim.Native.Nat.{ℕ, _+_, _≤_, _<_}
 use native.Mathlib.Omega.{arith}
 use lib.ListN.{length, take, drop, getD, length-append}
 use Rattle.lists.specs.Part.{part, part-length, part-all}
-use Rattle.lists.specs.Fill.{splice, splice-splice, Writing, start-at, puts, puts-room, done-at}
-use Rattle.nal_unit.specs.ListsCode.{splice-front}
+use Rattle.lists.specs.Fill.{splice, splice-splice, Writing, start-at, puts, puts-room, done-at, splice-front}
 use Rattle.nal_unit.specs.Unescape.{un}
 use Rattle.nal_unit.specs.Kept.{insAt, kept, insCount, un-kept, un-few, kept-more, kept-plain, kept-end, kept-append, kept-length}
 

@@ -2,7 +2,7 @@
 ghost use mathlib.Core.Path.{_≡_};
 ghost use Prim.Native.Nat.{_+_, _≤_};
 ghost use lib.ListN.{length};
-ghost use Rattle.nal_unit.specs.ListsCode.{every};
+ghost use Rattle.lists.specs.Flag.{every};
 ghost use Rattle.nal_unit.specs.EscapeCode.{counted};
 ghost use Rattle.nal_unit.specs.CalmCode.{plainAt, zeroAt};
 

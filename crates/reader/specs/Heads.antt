@@ -16,7 +16,7 @@ use Rattle.lists.specs.Part.{part, part-all, splice-part, drop-step}
 use Rattle.lists.specs.Stands.{begins, stands}
 use Rattle.lists.specs.Test.{allBelow, either}
 use Rattle.nal_unit.specs.Unescape.{un}
-use Rattle.nal_unit.specs.ListsCode.{splice-front}
+use Rattle.lists.specs.Fill.{splice-front}
 use Rattle.nal_unit.specs.Kept.{kept}
 use Rattle.nal_unit.specs.Taking.{Passed, Took, Stands, stands-took, pass-none, pass-more, stands-pass, stands-start, stands-room, stands-byte}
 use Rattle.slice.specs.Header.{headerOf, header-is}

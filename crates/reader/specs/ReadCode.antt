@@ -14,7 +14,7 @@ use lib.Dec.{ltb}
 use lib.ListN.{length, take, drop, getD, length-drop, drop-of-length-le}
 use borrow.Author.Tests.{ltb-false, le-ltb, lt-ltb, ne-eqb}
 use Rattle.lists.specs.Part.{part, part-step}
-use Rattle.lists.specs.Test.{same, either}
+use Rattle.lists.specs.Test.{same, either, or-left, or-right}
 use Rattle.nal_unit.specs.Calls.{Verdict, at, turn-end, turn-stray, turn-unit}
 use Rattle.nal_unit.specs.declared.scan.UnitScan.{UnitScan}
 use Rattle.nal_unit.specs.ScanCode.{unitOf, unit-is, Scanned}
@@ -35,7 +35,6 @@ use Rattle.slice.specs.Picture.{mbsIn, pictureLength, gridIn, samplesIn}
 use Rattle.ycbcr_image.specs.declared.Session.{Session}
 use Rattle.ycbcr_image.specs.Form.{mbBytes}
 use Rattle.ycbcr_image.specs.Sizes.{Sequence, sequenceOf, visibleHeight, visibleRowBytes, tightLength}
-use Rattle.ycbcr_image.specs.Tests.{or-left, or-right}
 use Rattle.ycbcr_image.specs.Refusals.{accepted, sessionBad}
 use Rattle.reader.specs.declared.HeldSps.the-variants.{Missing, Size}
 use Rattle.reader.specs.declared.HeldSets.{HeldSets}

@@ -19,7 +19,7 @@ use Rattle.ycbcr_image.specs.Form.{Form, formOf}
 use Rattle.ycbcr_image.specs.Sizes.{Sequence, sequenceOf}
 use Rattle.ycbcr_image.specs.Refusals.{accepted}
 use Rattle.ycbcr_image.specs.Accepted.{sound}
-use Rattle.ycbcr_image.specs.Tests.{or-left, or-right}
+use Rattle.lists.specs.Test.{or-left, or-right}
 use Rattle.reader.specs.declared.HeldSps.the-variants.{Missing, Size}
 use Rattle.reader.specs.declared.HeldSets.{HeldSets}
 use Rattle.reader.specs.declared.Step.{Step}

@@ -21,7 +21,7 @@ use Rattle.ycbcr_image.specs.declared.BitDepth.the-variants.{Depth8, Dep
 use Rattle.ycbcr_image.specs.declared.Kind.{Kind}
 use Rattle.ycbcr_image.specs.declared.Kind.the-variants.{Mono, Colour}
 use Rattle.ycbcr_image.specs.declared.Session.{Session}
-use Rattle.ycbcr_image.specs.Tests.{or-left, or-right, and-left, and-right}
+use Rattle.lists.specs.Test.{or-left, or-right, and-left, and-right}
 use Rattle.ycbcr_image.specs.Form.{Form, formOf, mono, planes, inPlane, bytesOf, subWidthC, subHeightC, blockWidth, blockHeight, blockRowBytes, blockBytes, mbBytes, cropUnitX, cropUnitY}
 use Rattle.ycbcr_image.specs.Sizes.{Sequence, sequenceOf, divCeil, nextMultiple, picWidthInMbs, frameHeightInMbs, visibleWidth, visibleHeight, paddedWidth, paddedHeight, visibleRowBytes, paddedRowBytes, tightLength}
 use Rattle.ycbcr_image.specs.Refusals.{sizeBad, fourBad, oddBad, heightBad, accepted}

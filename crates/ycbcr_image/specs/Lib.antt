@@ -1,4 +1,3 @@
-pub mod Tests
 pub mod Form
 pub mod Sizes
 pub mod Refusals

@@ -16,7 +16,7 @@ use borrow.Author.Tests.{ltb-false, eqb-true, lt-ltb, not-false, ne-eqb}
 use Rattle.ycbcr_image.specs.declared.DataPlane.{DataPlane}
 use Rattle.ycbcr_image.specs.declared.YCbCrImage.{YCbCrImage}
 use Rattle.ycbcr_image.specs.declared.Kind.the-variants.{Mono}
-use Rattle.ycbcr_image.specs.Tests.{or-left, or-right}
+use Rattle.lists.specs.Test.{or-left, or-right}
 use Rattle.ycbcr_image.specs.Form.{mono, planes, blockHeight, blockRowBytes}
 use Rattle.ycbcr_image.specs.Sizes.{Sequence, picWidthInMbs, frameHeightInMbs, paddedRowBytes, paddedHeight}
 use Rattle.ycbcr_image.specs.Refusals.{planeOf, sessionOf, ofPicture, sizeBad, depthsBad, fourBad, oddBad, heightBad, sessionBad, accepted, strideBad, rowsBad, shapeRefusal, planeRefusal, first, chromaRefusal, planesRefusal, differ, refusalOf, refusalNext}

@@ -9,7 +9,7 @@ use lib.Bits.{bitOr, bitAnd}
 use lib.ListN.{getD}
 use borrow.Author.Needs.{needs}
 use borrow.Author.Tests.{eq-eqb, ne-eqb}
-use Rattle.nal_unit.specs.ListsCode.{Flag, flag-start, flag-keep, flag-raise, flag-end}
+use Rattle.lists.specs.Flag.{Flag, flag-start, flag-keep, flag-raise, flag-end}
 use Rattle.nal_unit.specs.CalmCode.{plainAt, plain-bits}
 use Rattle.nal_unit.proofs.calm.calm.Statement.{statement}
 use Rattle.nal_unit.proofs.calm.calm.Tie as tie

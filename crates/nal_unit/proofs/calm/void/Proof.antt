@@ -3,7 +3,7 @@ use mathlib.Core.Path.{refl}
 use Prim.Native.Nat.{_+_, _-_, _≤_}
 use lib.ListN.{getD}
 use borrow.Author.Needs.{needs}
-use Rattle.nal_unit.specs.ListsCode.{Flag, flag-start, flag-or, flag-end}
+use Rattle.lists.specs.Flag.{Flag, flag-start, flag-or, flag-end}
 use Rattle.nal_unit.specs.CalmCode.{zeroAt}
 use Rattle.nal_unit.proofs.calm.void.Statement.{statement}
 use Rattle.nal_unit.proofs.calm.void.Tie as tie

@@ -4,8 +4,7 @@ use Prim.Native.Nat.{ℕ, _+_, _-_, _≤_}
 use native.Mathlib.Omega.{arith}
 use lib.ListN.{drop, getD}
 use borrow.Author.Needs.{needs}
-use Rattle.lists.specs.Part.{part, part-step, part-length}
-use Rattle.nal_unit.specs.ListsCode.{part-end}
+use Rattle.lists.specs.Part.{part, part-step, part-length, part-end}
 use Rattle.nal_unit.specs.CountCode.{Counting, count-begin, count-turn, count-end}
 use Rattle.nal_unit.proofs.count.count_bytes.Statement.{statement}
 use Rattle.nal_unit.proofs.count.count_bytes.Tie as tie

@@ -3,8 +3,7 @@ use mathlib.Core.List.{List}
 use Prim.Native.Nat.{ℕ, _+_, _-_}
 use native.Mathlib.Omega.{arith}
 use borrow.Author.Needs.{needs}
-use Rattle.lists.specs.Part.{part, part-length}
-use Rattle.nal_unit.specs.ListsCode.{part-cut}
+use Rattle.lists.specs.Part.{part, part-length, part-cut}
 use Rattle.nal_unit.specs.EscapeCode.{end-most}
 use Rattle.nal_unit.specs.CalmCode.{first-two}
 use Rattle.nal_unit.specs.CountCode.{Counts, counts-fit, counts-pieces}

@@ -1,10 +1,11 @@
 -- `nal_unit::fast::mend` meets its contract: a quiet stretch stays as it is, any other is copied and escaped over itself. Assumes nothing.
-use mathlib.Core.Path.{_≡_, refl, sym, _∙_}
+use mathlib.Core.Path.{_≡_, refl, sym, ap, _∙_}
+use mathlib.Core.List.{List}
+use Prim.Native.Nat.{ℕ}
 use native.Mathlib.Omega.{arith}
-use lib.ListN.{replicate}
+use lib.ListN.{replicate, length-replicate}
 use borrow.Author.Needs.{needs}
-use Rattle.lists.specs.Part.{part, part-length}
-use Rattle.nal_unit.specs.ListsCode.{splice-part, part-splice}
+use Rattle.lists.specs.Part.{part, part-length, splice-part, splice-own}
 use Rattle.nal_unit.specs.EscapeCode.{counted, counted-most}
 use Rattle.nal_unit.specs.CalmCode.{quiet-part}
 use Rattle.nal_unit.specs.PutCode.{put-quiet}
@@ -17,7 +18,8 @@ S c = c .before .before .before .before .before .before .before
 saved : (c : tie.After-copy) → let a = S c in part (c .copy .last .1 .1 .1 .0) 0 (a .args .n) ≡ part (a .args .out .now) (a .args .at) (a .args .n)
 saved c =
     let a = S c in
-    part-splice (replicate 1040 0) (part (a .args .out .now) (a .args .at) (a .args .n)) 0 (a .args .n) (c .copy .ensures) (part-length (a .args .out .now) (a .args .at) (a .args .n) (a .pre .1 .1 .0)) (omega arith)
+    let w = part-length (a .args .out .now) (a .args .at) (a .args .n) (a .pre .1 .1 .0) in
+    ap (λ (l : List ℕ). part l 0 (a .args .n)) (c .copy .ensures) ∙ (rw w at (splice-part (replicate 1040 0) 0 (part (a .args .out .now) (a .args .at) (a .args .n)) (omega (arith, length-replicate {A = ℕ} 1040 0))))
 
 calm-requires : tie.Need-calm-requires
 calm-requires c κs = search needs
@@ -34,7 +36,7 @@ returns c =
     let d = a .args .out .now in
     put-quiet d (a .args .at)
     (quiet-part d (a .args .at) (a .args .n) (counted d (a .args .at)) (a .pre .1 .1 .0) (counted-most d (a .args .at)) (omega arith) (sym (c .before .calm .ensures) ∙ c .if1 .taken))
-    (sym (splice-part d (a .args .at) (a .args .n) (a .pre .1 .1 .0)))
+    (sym (splice-own d (a .args .at) (a .args .n) (a .pre .1 .1 .0)))
     (rw (part-length d (a .args .at) (a .args .n) (a .pre .1 .1 .0)) refl)
 
 slice-aggregate-copy : tie.Need-slice-aggregate-copy

@@ -5,8 +5,7 @@ use Prim.Native.Nat.{ℕ, _+_, _-_, _≤_}
 use native.Mathlib.Omega.{arith}
 use lib.ListN.{length}
 use borrow.Author.Needs.{needs}
-use Rattle.lists.specs.Part.{part, part-length}
-use Rattle.nal_unit.specs.ListsCode.{part-cut}
+use Rattle.lists.specs.Part.{part, part-length, part-cut}
 use Rattle.nal_unit.specs.Escape.{escFrom}
 use Rattle.nal_unit.specs.EscapeCode.{counted, counted-most, esc-least}
 use Rattle.nal_unit.specs.CalmCode.{first-two}

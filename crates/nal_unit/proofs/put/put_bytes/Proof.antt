@@ -3,8 +3,7 @@ use mathlib.Core.List.{List, [], _∷_, _++_}
 use Prim.Native.Nat.{ℕ, _+_, _-_, _≤_}
 use lib.ListN.{drop, getD}
 use borrow.Author.Needs.{needs}
-use Rattle.lists.specs.Part.{part, part-step}
-use Rattle.nal_unit.specs.ListsCode.{part-end}
+use Rattle.lists.specs.Part.{part, part-step, part-end}
 use Rattle.nal_unit.specs.PutCode.{Escaping, begin, turn, turn-room, end}
 use Rattle.nal_unit.proofs.put.put_bytes.Statement.{statement}
 use Rattle.nal_unit.proofs.put.put_bytes.Tie as tie

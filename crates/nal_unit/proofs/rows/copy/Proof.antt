@@ -5,7 +5,7 @@ use native.Mathlib.Omega.{arith}
 use lib.ListN.{length}
 use borrow.Author.Needs.{needs}
 use Rattle.lists.specs.Part.{part, part-length}
-use Rattle.nal_unit.specs.ListsCode.{Copied, copy-start, copy-part, copy-end}
+use Rattle.lists.specs.Copy.{Copied, copy-start, copy-part, copy-end}
 use Rattle.nal_unit.proofs.rows.copy.Statement.{statement}
 use Rattle.nal_unit.proofs.rows.copy.Tie as tie
 

@@ -6,7 +6,8 @@ use native.Mathlib.Omega.{arith}
 use lib.ListN.{length}
 use borrow.Author.Needs.{needs}
 use Rattle.lists.specs.Part.{part, part-length}
-use Rattle.nal_unit.specs.ListsCode.{Copied, copy-start, copy-part, copy-end, splice-whole}
+use Rattle.lists.specs.Copy.{Copied, copy-start, copy-part, copy-end}
+use Rattle.lists.specs.Fill.{splice-whole}
 use Rattle.nal_unit.proofs.rows.load.Statement.{statement}
 use Rattle.nal_unit.proofs.rows.load.Tie as tie
 

@@ -4,7 +4,7 @@ use Prim.Native.Nat.{_-_, _≤_}
 use native.Mathlib.Omega.{arith}
 use lib.ListN.{length}
 use borrow.Author.Needs.{needs}
-use Rattle.nal_unit.specs.ListsCode.{Copied, copy-start, copy-turn, copy-end}
+use Rattle.lists.specs.Copy.{Copied, copy-start, copy-turn, copy-end}
 use Rattle.nal_unit.proofs.rows.store.Statement.{statement}
 use Rattle.nal_unit.proofs.rows.store.Tie as tie
 

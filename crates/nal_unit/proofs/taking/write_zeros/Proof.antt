@@ -4,7 +4,7 @@ use Prim.Native.Nat.{ℕ, _-_, _≤_}
 use native.Mathlib.Omega.{arith}
 use lib.ListN.{length, replicate, length-replicate, getD-replicate}
 use borrow.Author.Needs.{needs}
-use Rattle.nal_unit.specs.ListsCode.{Copied, copy-start, copy-turn, copy-end}
+use Rattle.lists.specs.Copy.{Copied, copy-start, copy-turn, copy-end}
 use Rattle.nal_unit.proofs.taking.write_zeros.Statement.{statement}
 use Rattle.nal_unit.proofs.taking.write_zeros.Tie as tie
 
