@@ -16,8 +16,8 @@ use crate::record::record;
 use crate::salvage::{save, RATE};
 use crate::scene::picture;
 use crate::sheet::{sheet, Row};
-use crate::window::{What, Window};
 use crate::y4m::{self, Source};
+use reelpony::window::{What, Window};
 
 const PICTURES: usize = 8;
 const WIDTH: u32 = 320;

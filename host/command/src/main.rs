@@ -11,7 +11,6 @@ mod record;
 mod salvage;
 mod scene;
 mod sheet;
-mod window;
 mod y4m;
 
 use std::env;

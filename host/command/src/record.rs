@@ -6,8 +6,8 @@ use std::path::Path;
 use crate::error::{Error, Outcome, Result};
 use crate::files::{Input, Output};
 use crate::progress::{counted, Progress};
-use crate::window::{longest_picture, zeros};
 use crate::y4m::{self, Source};
+use reelpony::window::{longest_picture, zeros};
 
 /// Bytes of the Y4M that are read at a time.
 const BUFFER: usize = 1 << 18;

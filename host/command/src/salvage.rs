@@ -10,8 +10,8 @@ use reelpony::Refusal;
 use crate::error::{Error, Outcome, Result};
 use crate::files::{Input, Name, Output, Text};
 use crate::progress::{counted, Progress};
-use crate::window::{Found, What, Window};
 use crate::y4m;
+use reelpony::window::{Found, What, Window};
 
 /// Pictures a second that a Y4M gets, since a take doesn't hold them.
 pub const RATE: &str = "25:1";
@@ -101,16 +101,24 @@ fn open(
     let Input { file, name, length } = Input::open(take)?;
     let mut window = window(file);
     if let Some(like) = like {
-        let other = Input::open(like)?;
-        match window.hold_those_of(other.file) {
-            Ok(true) => {}
-            Ok(false) => {
-                return Error::sentence(format!("{} has no parameter sets to go by", other.name))
-            }
-            Err(error) => return Err(Error::reading(&other.name, error)),
-        }
+        let sps = sps_of(like)?;
+        window.hold(sps).map_err(|error| Error::reading(&name, error))?;
     }
     Ok((window, name, Progress::new(length)))
+}
+
+/// The sequence parameter set that a take begins with, if both sets stand before its first picture.
+fn sps_of(take: &Path) -> Result<Sps> {
+    let Input { file, name, .. } = Input::open(take)?;
+    let mut window = Window::new(file);
+    while let Some(found) = window.next().map_err(|error| Error::reading(&name, error))? {
+        match window.sps() {
+            Some(sps) if window.has_pps() => return Ok(sps),
+            _ if found.what == What::Picture => break,
+            _ => {}
+        }
+    }
+    Error::sentence(format!("{name} has no parameter sets to go by"))
 }
 
 pub fn list(path: &Path, like: Option<&Path>) -> Result<Outcome> {

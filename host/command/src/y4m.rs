@@ -10,7 +10,7 @@ use reelpony::BitDepth::{self, Depth12, Depth8};
 
 use crate::error::{Error, Result};
 use crate::files::{Name, Output};
-use crate::window::zeros;
+use reelpony::window::zeros;
 
 /// Lines are not longer than this.
 const LONGEST_LINE: u64 = 4096;

@@ -76,6 +76,7 @@ pub mod nal_unit;
 mod pictures;
 pub mod reader;
 mod refusal;
+pub mod window;
 pub mod ycbcr_image;
 
 pub use encoder::LessEncoder;
@@ -84,6 +85,7 @@ pub use nal_unit::RbspData;
 pub use pictures::{Lost, Picture, Pictures, Salvage};
 pub use reader::Reader;
 pub use refusal::Refusal;
+pub use window::Window;
 use ycbcr_image::{Planes, YCbCrImage};
 
 /// Bits a sample.

@@ -32,9 +32,7 @@ impl Sps {
     /// The bytes that a picture's visible rows have in Y, Cb and Cr, one behind the other without
     /// gaps. Planes of these lengths are enough. Monochrome has none in Cb and Cr.
     pub fn plane_lengths(&self) -> [usize; 3] {
-        let [width, height] = [self.width, self.height].map(u64::from);
-        let depth = u64::from(self.bit_depth.num_bits());
-        let held = [0, 1, width, height, u64::from(self.colour), depth, 0, 0];
+        let Reader(held) = Reader::holding(*self);
         [0, 1, 2].map(|plane| ffi::plane_len(&held, plane) as usize)
     }
 }
@@ -99,6 +97,22 @@ impl Reader {
     /// At a take's first byte, with nothing held.
     pub fn new() -> Reader {
         Reader::default()
+    }
+
+    /// At a take's first byte, as if this sequence parameter set and the picture parameter set, of
+    /// which there is but one, had been read before: for a take whose first bytes are lost. A size or
+    /// kind that no take has counts as nothing held.
+    pub fn holding(sps: Sps) -> Reader {
+        let [width, height] = [sps.width, sps.height].map(u64::from);
+        let depth = u64::from(sps.bit_depth.num_bits());
+        Reader([0, 1, width, height, u64::from(sps.colour), depth, 1, 0])
+    }
+
+    /// The same at another place.
+    pub fn at(self, place: usize) -> Reader {
+        let mut words = self.0;
+        words[0] = place as u64;
+        Reader(words)
     }
 
     /// Where the next call goes on.

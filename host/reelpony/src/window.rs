@@ -22,18 +22,16 @@
 //!   them, in a piece as in a unit. Without a pattern the kept bytes end in two zeros at most, so
 //!   they are still too long for a parameter set and for a picture, and the later refusals (13 to
 //!   18) fall on them as on the whole unit.
-//! - The calls differ in their place too. A reader can't be moved, but it can be copied: `held` is
-//!   the reader as it stood when it last learned a parameter set. Each call is made by a copy of
-//!   it, with a slice in which the unread bytes begin at its place. What stands before them is
-//!   never looked at.
+//! - The calls differ in their place too: each is made by a reader at the front of the unread bytes,
+//!   with the parameter sets that were met before them.
 
 use std::io::{self, Read};
 
-use reelpony::reader::{Answer, PlanesMut, Reader, Sps};
-use reelpony::Refusal;
+use crate::reader::{Answer, PlanesMut, Reader, Sps};
+use crate::Refusal;
 
 /// How many bytes are asked for at a time.
-pub const CHUNK: usize = 1 << 18;
+const CHUNK: usize = 1 << 18;
 
 /// What a place of a take holds.
 #[derive(Clone, Debug, PartialEq, Eq)]
@@ -42,15 +40,20 @@ pub struct Found {
     pub offset: u64,
     /// How many there are, without zeros at the end.
     pub length: u64,
+    /// What they are.
     pub what: What,
 }
 
+/// What a [`Window`] answers about a place of a take.
 #[derive(Clone, Copy, Debug, PartialEq, Eq)]
 pub enum What {
+    /// A sequence parameter set; from now on it is held.
     Sps(Sps),
+    /// A picture parameter set; from now on it is held.
     Pps,
     /// A picture; its samples are in the planes, if they are kept.
     Picture,
+    /// Bytes that are none of these, and why.
     Refused(Refusal),
 }
 
@@ -59,9 +62,10 @@ pub struct Window<R> {
     source: R,
     chunk: usize,
     at_end: bool,
+    /// At place 0, with the parameter sets that were met.
     held: Reader,
     bytes: Vec<u8>,
-    /// The index of the first unread byte, never less than the reader's place.
+    /// The index of the first unread byte.
     begin: usize,
     /// The file's offset of that byte.
     offset: u64,
@@ -90,29 +94,20 @@ impl<R: Read> Window<R> {
         }
     }
 
-    /// Goes on as if the parameter sets that another take begins with had been read here. Answers
-    /// whether it has both.
-    pub fn hold_those_of(&mut self, other: impl Read) -> io::Result<bool> {
-        let mut other = Window::new(other);
-        while let Some(found) = other.next()? {
-            let whole = other.held.sps().is_some() && other.held.has_pps();
-            if whole || found.what == What::Picture {
-                break;
-            }
-        }
-        let whole = other.held.sps().is_some() && other.held.has_pps();
-        if whole && self.bytes.is_empty() {
-            self.held = other.held;
-            self.begin = self.held.place();
-            self.bytes = vec![0; self.begin];
-            self.make_planes()?;
-        }
-        Ok(whole)
+    /// Goes on as if this sequence parameter set and the picture parameter set had been read here.
+    pub fn hold(&mut self, sps: Sps) -> io::Result<()> {
+        self.held = Reader::holding(sps);
+        self.make_planes()
     }
 
     /// The sequence parameter set that is held.
     pub fn sps(&self) -> Option<Sps> {
         self.held.sps()
+    }
+
+    /// Whether a picture parameter set is held.
+    pub fn has_pps(&self) -> bool {
+        self.held.has_pps()
     }
 
     /// Y, Cb and Cr of the last picture, tight rows; monochrome has none in Cb and Cr.
@@ -236,7 +231,7 @@ impl<R: Read> Window<R> {
     fn judged(&mut self, end: usize) -> io::Result<What> {
         let mut reader = self.held;
         let [y, cb, cr] = &mut self.planes;
-        let slice = &self.bytes[self.begin - reader.place()..end];
+        let slice = &self.bytes[self.begin..end];
         let what = match reader.read(slice, PlanesMut { y, cb, cr }) {
             Answer::Sps { sps, .. } => What::Sps(sps),
             Answer::Pps { .. } => What::Pps,
@@ -250,7 +245,7 @@ impl<R: Read> Window<R> {
             Answer::End => What::Refused(Refusal::Stray),
         };
         if (reader.sps(), reader.has_pps()) != (self.held.sps(), self.held.has_pps()) {
-            self.held = reader;
+            self.held = reader.at(0);
             self.make_planes()?;
         }
         Ok(what)
@@ -273,15 +268,14 @@ impl<R: Read> Window<R> {
         self.go_on(from, self.offset + (from - self.begin) as u64);
     }
 
-    /// Goes on with the bytes from an index on, where the file has the offset given. The reader's
-    /// place is never behind it: a call moves to its slice's end at most. Bytes that were read are
-    /// taken away when they are no fewer than the unread ones, so that few are moved for each.
+    /// Goes on with the bytes from an index on, where the file has the offset given. Bytes that were
+    /// read are taken away when they are no fewer than the unread ones, so that few are moved for
+    /// each.
     fn go_on(&mut self, from: usize, offset: u64) {
         (self.begin, self.offset) = (from, offset);
-        let spent = self.begin - self.held.place();
-        if spent >= self.bytes.len() - self.begin {
-            self.bytes.drain(..spent);
-            self.begin -= spent;
+        if from >= self.bytes.len() - from {
+            self.bytes.drain(..from);
+            self.begin = 0;
         }
     }
 
@@ -364,9 +358,9 @@ pub fn zeros(length: usize) -> io::Result<Vec<u8>> {
 #[cfg(test)]
 mod tests {
     use super::*;
+    use crate::ycbcr_image::{DataPlane, Planes, YCbCrImage};
+    use crate::BitDepth::{Depth12, Depth8};
     use common::Noise;
-    use reelpony::ycbcr_image::{DataPlane, Planes, YCbCrImage};
-    use reelpony::BitDepth::{Depth12, Depth8};
 
     /// What is found, and a picture's samples.
     type Reading = Vec<(Found, Option<[Vec<u8>; 3]>)>;
@@ -386,9 +380,9 @@ mod tests {
             let image = YCbCrImage { planes, width, height };
             let mut out = vec![0; 20_000];
             let length = match &mut session {
-                Some(session) => reelpony::next(session, &image, &mut out).unwrap(),
+                Some(session) => crate::next(session, &image, &mut out).unwrap(),
                 None => {
-                    let (length, started) = reelpony::start(&image, &mut out).unwrap();
+                    let (length, started) = crate::start(&image, &mut out).unwrap();
                     session = Some(started);
                     length
                 }
