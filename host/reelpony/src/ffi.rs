@@ -313,6 +313,16 @@ mod tests {
         kept + rest
     }
 
+    /// C's text without the functions that it defines itself.
+    fn without_inline(text: &str) -> String {
+        let mut parts = text.split("static inline ");
+        let mut kept = parts.next().unwrap().to_string();
+        for part in parts {
+            kept += part.split_once("\n}\n").expect("a body that ends").1;
+        }
+        kept
+    }
+
     /// A function's name, its parameters and its result.
     type Function = (String, Vec<Parameter>, String);
 
@@ -365,6 +375,7 @@ mod tests {
     #[test]
     fn declarations_are_the_headers() {
         let header = without_comments(include_str!("../../../include/reelpony.h"));
+        let header = without_inline(&header);
         let source = include_str!("ffi.rs").split_inclusive("\n}").next().unwrap();
         let mentions = [&header, source].map(|text| text.matches(" reelpony_").count());
 
@@ -389,5 +400,19 @@ mod tests {
                 assert_eq!(rust, c, "a parameter of {name}");
             }
         }
+    }
+
+    /// The header's version, as a text and in three numbers, is the crate's.
+    #[test]
+    fn version_is_the_headers() {
+        let header = include_str!("../../../include/reelpony.h");
+        let value = |name: &str| {
+            let (_, rest) = header.split_once(&format!("#define {name} ")).expect(name);
+            rest.lines().next().unwrap()
+        };
+        assert_eq!(value("REELPONY_VERSION"), format!("{:?}", env!("CARGO_PKG_VERSION")));
+        assert_eq!(value("REELPONY_VERSION_MAJOR"), env!("CARGO_PKG_VERSION_MAJOR"));
+        assert_eq!(value("REELPONY_VERSION_MINOR"), env!("CARGO_PKG_VERSION_MINOR"));
+        assert_eq!(value("REELPONY_VERSION_PATCH"), env!("CARGO_PKG_VERSION_PATCH"));
     }
 }
