@@ -76,6 +76,10 @@ uint32_t reelpony_next(uint32_t width, uint32_t height, uint32_t colour,
     const uint8_t *cr, size_t cr_len, size_t cr_stride, uint32_t cr_depth,
     uint8_t *out, size_t out_len, uint32_t session[8], uint64_t *length);
 
+/* A length of out with which neither call is refused with 9, whatever the samples, and neither goes over the picture first to count its bytes. The pictures
+ * have this size and colour, and all their planes this depth. 0 where the calls refuse that with 99 or 1 to 5. */
+uint64_t reelpony_room(uint32_t width, uint32_t height, uint32_t colour, uint32_t depth);
+
 /* Answers one thing about the bytes from the reader's place on: a unit, bytes that belong to none, or the end.
  *
  * take        the bytes of a file, or of a part of one; any bytes. A start code is 00 00 01; a unit runs to the next one or the end, less its

@@ -48,6 +48,8 @@ extern "C" {
         length: &mut u64,
     ) -> u32;
 
+    fn reelpony_room(width: u32, height: u32, colour: u32, depth: u32) -> u64;
+
     fn reelpony_read(
         take: *const u8,
         take_len: usize,
@@ -209,6 +211,12 @@ fn call(next: bool, picture: &Picture, out: &mut [u8], session: &mut [u32; 8]) -
         )
     };
     Answer { number, length }
+}
+
+/// `reelpony_room`: a length of `out` with which neither call is refused with 9.
+pub fn room(width: u32, height: u32, colour: u32, depth: u32) -> u64 {
+    // Sound for any numbers: nothing is lent.
+    unsafe { reelpony_room(width, height, colour, depth) }
 }
 
 /// `reelpony_read`: the next thing in a take. The state is the place, whether an SPS is held, its
