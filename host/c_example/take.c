@@ -12,9 +12,6 @@
 /* 4:2:0 colour of 8 bits. The planes that are written have whole macroblocks: 48 rows of 64 bytes, and 24 rows of 32. What is read has the visible rows. */
 enum { WIDTH = 60, HEIGHT = 46, Y_STRIDE = 64, C_STRIDE = 32, Y_ROWS = 48, C_ROWS = 24, PICTURES = 5 };
 
-/* The first of the numbers that reelpony_read answers. */
-enum { END, SPS, PPS, PICTURE, REFUSED };
-
 struct picture {
     uint8_t y[Y_STRIDE * Y_ROWS], cb[C_STRIDE * C_ROWS], cr[C_STRIDE * C_ROWS];
 };
@@ -36,22 +33,6 @@ static void check(int holds, const char *what) {
     failures++;
 }
 
-static const char *sentence(unsigned number) {
-    switch (number) {
-    case 10: return "bytes that no start code stands before";
-    case 11: return "nothing behind the start code";
-    case 12: return "two zeros followed by what escaping never leaves there";
-    case 13: return "neither a parameter set nor a picture";
-    case 14: return "a parameter set that is not the writer's";
-    case 15: return "another SPS than the one held";
-    case 16: return "a picture before both parameter sets";
-    case 17: return "a picture that is cut short";
-    case 18: return "a picture that is too long or not of the writer's form";
-    case 19: return "planes that are too short";
-    default: return "a refusal that the header doesn't list";
-    }
-}
-
 /* A slope that moves from picture to picture, with black in it, so that something has to be escaped. */
 static void draw(struct picture *p, int turn) {
     for (int row = 0; row < Y_ROWS; row++)
@@ -63,22 +44,25 @@ static void draw(struct picture *p, int turn) {
         }
 }
 
-/* Appends a picture to the take. A call with no room answers the exact length, and writes nothing. */
+/* Memory of that many bytes, all 0, with the first `kept` of the old. */
+static uint8_t *grown(uint8_t *old, size_t kept, size_t length) {
+    uint8_t *bytes = calloc(length, 1);
+    if (length && !bytes) exit(2);
+    if (kept) memcpy(bytes, old, kept);
+    free(old);
+    return bytes;
+}
+
+/* Appends a picture to the take. With the room that any picture of the size and kind fits in, no call is refused as too short. */
 static void append(struct take *take, const struct picture *p, uint32_t session[8], int first) {
     uint32_t (*call)(uint32_t, uint32_t, uint32_t, const uint8_t *, size_t, size_t, uint32_t, const uint8_t *, size_t, size_t, uint32_t, const uint8_t *,
         size_t, size_t, uint32_t, uint8_t *, size_t, uint32_t *, uint64_t *) = first ? reelpony_start : reelpony_next;
-    uint8_t none[1];
-    uint64_t needed = 0, length = 0;
+    uint64_t room = reelpony_room(WIDTH, HEIGHT, 1, 8), length = 0;
+    take->bytes = grown(take->bytes, take->length, take->length + room);
     uint32_t number = call(WIDTH, HEIGHT, 1, p->y, sizeof p->y, Y_STRIDE, 8, p->cb, sizeof p->cb, C_STRIDE, 8, p->cr, sizeof p->cr, C_STRIDE, 8,
-        none, 0, session, &needed);
-    check(number == 9 && needed > 0, "an output of no bytes is refused with 9 and the length needed");
-    if (number != 9) return;
-
-    take->bytes = realloc(take->bytes, take->length + needed);
-    if (!take->bytes) exit(2);
-    number = call(WIDTH, HEIGHT, 1, p->y, sizeof p->y, Y_STRIDE, 8, p->cb, sizeof p->cb, C_STRIDE, 8, p->cr, sizeof p->cr, C_STRIDE, 8,
-        take->bytes + take->length, needed, session, &length);
-    check(number == 0 && length == needed, "with that length the picture is written");
+        take->bytes + take->length, room, session, &length);
+    if (number != REELPONY_ACCEPTED) printf("refused, %u: %s\n", number, reelpony_refusal_text(number));
+    check(number == REELPONY_ACCEPTED && length <= room, "a picture is written into the room for it");
     take->length += length;
 }
 
@@ -92,62 +76,70 @@ static int same(const uint8_t *tight, const uint8_t *plane, int width, int heigh
 /* Reads a take to its end, prints a line for each answer, and compares. `begins` are the pictures' places in this copy. */
 static void read_back(const char *title, const uint8_t *bytes, size_t length, const size_t begins[PICTURES], const struct picture *pictures,
     const expected expect) {
-    uint64_t reader[8] = {0}, answer[8];
-    uint8_t *y = NULL, *cb = NULL, *cr = NULL;
-    uint8_t none[1];
-    int met[PICTURES];
+    uint64_t reader[8] = {0}, answer[8] = {0};
+    uint8_t *plane[3] = {NULL, NULL, NULL};
+    size_t len[3] = {0, 0, 0};
+    int met[PICTURES], lent = 0;
     for (int i = 0; i < PICTURES; i++) met[i] = -1;
 
     printf("\n%s, %zu bytes\n  %8s  %s\n", title, length, "offset", "what");
     for (;;) {
-        uint64_t y_len = reelpony_plane_len(reader, 0), cb_len = reelpony_plane_len(reader, 1), cr_len = reelpony_plane_len(reader, 2);
-        uint32_t number = reelpony_read(bytes, length, y ? y : none, y ? y_len : 0, cb ? cb : none, cb ? cb_len : 0, cr ? cr : none, cr ? cr_len : 0,
-            reader, answer);
-        if (answer[0] == END) break;
-        size_t offset = answer[1];
+        uint64_t place = reader[REELPONY_PLACE];
+        uint32_t number = reelpony_read(bytes, length, plane[0], len[0], plane[1], len[1], plane[2], len[2], reader, answer);
+        if (answer[REELPONY_KIND] == REELPONY_END) break;
+        size_t offset = answer[REELPONY_OFFSET];
         int which = 0;
         while (which < PICTURES && begins[which] != offset) which++;
         printf("  %8zu  ", offset);
-        switch (answer[0]) {
-        case SPS:
-            printf("SPS: %u x %u, %s, %u bits\n", (unsigned)answer[2], (unsigned)answer[3], answer[4] ? "colour" : "mono", (unsigned)answer[5]);
-            check(answer[2] == WIDTH && answer[3] == HEIGHT && answer[4] == 1 && answer[5] == 8, "the SPS says the size and kind");
-            y = realloc(y, reelpony_plane_len(reader, 0));
-            cb = realloc(cb, reelpony_plane_len(reader, 1));
-            cr = realloc(cr, reelpony_plane_len(reader, 2));
-            if (!y || !cb || !cr) exit(2);
+        if (number == REELPONY_REFUSED_PLANES) {
+            /* The place is kept. What the picture needs is lent, and the next call reads it. */
+            for (uint32_t i = 0; i < 3; i++) {
+                len[i] = reelpony_plane_len(reader, i);
+                plane[i] = grown(plane[i], 0, len[i]);
+            }
+            printf("planes of %zu, %zu and %zu bytes are lent\n", len[0], len[1], len[2]);
+            check(lent++ == 0 && reader[REELPONY_PLACE] == place, "planes are lent once, and the place is kept");
+            if (lent > 1) break;
+            continue;
+        }
+        switch (answer[REELPONY_KIND]) {
+        case REELPONY_SPS:
+            printf("SPS: %u x %u, %s, %u bits\n", (unsigned)answer[REELPONY_WIDTH], (unsigned)answer[REELPONY_HEIGHT],
+                answer[REELPONY_COLOUR] ? "colour" : "mono", (unsigned)answer[REELPONY_DEPTH]);
+            check(answer[REELPONY_WIDTH] == WIDTH && answer[REELPONY_HEIGHT] == HEIGHT && answer[REELPONY_COLOUR] == 1 && answer[REELPONY_DEPTH] == 8,
+                "the SPS says the size and kind");
             break;
-        case PPS: printf("PPS\n"); break;
-        case PICTURE:
+        case REELPONY_PPS: printf("PPS\n"); break;
+        case REELPONY_PICTURE:
             check(which < PICTURES, "a picture stands where one was written");
             if (which == PICTURES) break;
             const struct picture *p = &pictures[which];
-            int equal = same(y, p->y, WIDTH, HEIGHT, Y_STRIDE) && same(cb, p->cb, WIDTH / 2, HEIGHT / 2, C_STRIDE) &&
-                same(cr, p->cr, WIDTH / 2, HEIGHT / 2, C_STRIDE);
+            int equal = same(plane[0], p->y, WIDTH, HEIGHT, Y_STRIDE) && same(plane[1], p->cb, WIDTH / 2, HEIGHT / 2, C_STRIDE) &&
+                same(plane[2], p->cr, WIDTH / 2, HEIGHT / 2, C_STRIDE);
             printf("picture %d, %s\n", which + 1, equal ? "every sample as it was" : "SAMPLES DIFFER");
             check(equal, "a picture that is read has the samples that were written");
             met[which] = 0;
             break;
         default:
-            printf("refused, %u: %s\n", number, sentence(number));
-            check(number == answer[6] && number != 0, "the refusal's number is answered twice");
+            printf("refused, %u: %s\n", number, reelpony_refusal_text(number));
+            check(number == answer[REELPONY_NUMBER] && number != 0, "the refusal's number is answered twice");
             if (which < PICTURES) met[which] = (int)number;
         }
     }
-    check(reader[0] == length, "the reader goes to the end");
+    check(reader[REELPONY_PLACE] == length, "the reader goes to the end");
     int saved = 0;
     for (int i = 0; i < PICTURES; i++) {
         check(met[i] == expect[i], "each picture comes back, or is refused with the number that its damage gives");
         saved += met[i] == 0;
     }
     printf("  %d of %d pictures are saved\n", saved, PICTURES);
-    free(y), free(cb), free(cr);
+    for (int i = 0; i < 3; i++) free(plane[i]);
 }
 
 int main(int argc, char **argv) {
     static struct picture pictures[PICTURES];
     struct take take = {0};
-    uint32_t session[8];
+    uint32_t session[8] = {0};
     for (int i = 0; i < PICTURES; i++) {
         draw(&pictures[i], i);
         append(&take, &pictures[i], session, i == 0);
@@ -166,7 +158,7 @@ int main(int argc, char **argv) {
     read_back("the take cut in the fourth picture", take.bytes, take.begins[3] + 1000, take.begins, pictures, (expected){0, 0, 0, 17, -1});
 
     /* A byte of the second picture is lost, so that all behind it moves; the fourth gets a block of zeros. */
-    uint8_t *damaged = malloc(take.length);
+    uint8_t *damaged = calloc(take.length, 1);
     if (!damaged) return 2;
     size_t lost = take.begins[1] + 700, length = take.length - 1;
     memcpy(damaged, take.bytes, lost);

@@ -4,7 +4,8 @@
  *
  * Every lent buffer has its exact length and stands, by turns, at the end of a page before one that can't be touched, at the begin
  * of a page behind such a one, or in memory of malloc, which AddressSanitizer watches in this file and in the functions of the C
- * library. The library itself is not instrumented: there the pages count, and bytes around each buffer that must stay.
+ * library. The library itself is not instrumented: there the pages count, and bytes around each buffer that must stay. A take or a
+ * plane of no bytes is NULL by turns.
  * With CASE, only that one is made. Status 0: nothing was touched; 1: something was, or an answer can't be. */
 #define _GNU_SOURCE
 #include <signal.h>
@@ -18,9 +19,6 @@
 #include "../../include/reelpony.h"
 
 enum { PAGE = 4096, ROOM = 4 * PAGE, MARGIN = 64, CANARY = 0xC5, BUFFERS = 6, CASES_A_LOOK = 64 };
-
-/* The first of the numbers that reelpony_read answers. */
-enum { END, SPS, PPS, PICTURE, REFUSED };
 
 static uint64_t seed = 1, number_of_case, noise;
 
@@ -40,12 +38,13 @@ static void fail(const char *what) {
     exit(1);
 }
 
-/* A lent buffer: where it stands, its length, and what it held before the call. */
+/* A lent buffer: where it stands (nowhere if it is NULL), its length, what it held before the call, and in how many cases it was NULL. */
 struct lent {
     const char *name;
     uint8_t *pages, *bytes;
     size_t length;
     int by_malloc;
+    uint64_t nulls;
     uint8_t before[ROOM];
 };
 
@@ -58,6 +57,7 @@ static void on_fault(int sig, siginfo_t *info, void *context) {
     const uint8_t *at = info->si_addr;
     const char *name = "elsewhere";
     long place = 0;
+    if ((uintptr_t)at < PAGE) name = "NULL", place = (long)(uintptr_t)at;
     for (int i = 0; i < BUFFERS; i++)
         if (lents[i].pages && at >= lents[i].pages && at < lents[i].pages + ROOM + 2 * PAGE)
             name = lents[i].name, place = (long)(at - lents[i].bytes);
@@ -81,6 +81,11 @@ static void make_pages(struct lent *l) {
 static void place(struct lent *l, size_t length) {
     l->length = length;
     l->by_malloc = below(4) == 0;
+    if (length == 0 && below(2)) {
+        l->bytes = NULL;
+        l->nulls++;
+        return;
+    }
     if (l->by_malloc) {
         l->bytes = malloc(length);
         if (!l->bytes) exit(2);
@@ -93,12 +98,20 @@ static void place(struct lent *l, size_t length) {
 }
 
 static void check_canaries(const struct lent *l) {
-    if (l->by_malloc) return;
+    if (l->by_malloc || !l->bytes) return;
     const uint8_t *begin = l->pages + PAGE, *end = begin + ROOM;
     for (const uint8_t *p = l->bytes - MARGIN; p < l->bytes; p++)
         if (p >= begin && *p != CANARY) fail("a byte before a buffer was changed");
     for (const uint8_t *p = l->bytes + l->length; p < l->bytes + l->length + MARGIN && p < end; p++)
         if (*p != CANARY) fail("a byte behind a buffer was changed");
+}
+
+static void remember(struct lent *l) {
+    if (l->length) memcpy(l->before, l->bytes, l->length);
+}
+
+static int changed(const struct lent *l) {
+    return l->length && memcmp(l->before, l->bytes, l->length) != 0;
 }
 
 /* What the case's takes are written for. */
@@ -121,8 +134,8 @@ static size_t written(uint8_t *out, size_t room) {
     static const uint64_t one_in[] = {1, 2, 8, 400};
     uint64_t some = one_in[below(4)];
     for (size_t i = 0; i < sizeof plane; i++) plane[i] = below(some) ? 0 : (uint8_t)below(256);
-    uint32_t session[8];
-    uint64_t length;
+    uint32_t session[8] = {0};
+    uint64_t length = 0;
     uint32_t number = reelpony_start(width, height, colour, plane, sizeof plane, 96, depth, plane, sizeof plane, 96, depth,
         plane, sizeof plane, 96, depth, out, room, session, &length);
     if (number) fail("the writer refuses");
@@ -170,27 +183,28 @@ static size_t tight(int chroma) {
 
 static uint64_t answers[5], calls;
 
-/* One call on the buffers as they stand; answers what it is. */
-static uint64_t call(void) {
+/* One call on the buffers as they stand; answers whether the place was moved. */
+static int call(void) {
     struct lent *take = &lents[0], *y = &lents[1], *cb = &lents[2], *cr = &lents[3], *reader = &lents[4], *answer = &lents[5];
-    for (int i = 0; i < BUFFERS; i++) memcpy(lents[i].before, lents[i].bytes, lents[i].length);
+    for (int i = 0; i < BUFFERS; i++) remember(&lents[i]);
     uint64_t *state = (uint64_t *)(void *)reader->bytes, *words = (uint64_t *)(void *)answer->bytes, before[8];
     memcpy(before, state, sizeof before);
     uint32_t number = reelpony_read(take->bytes, take->length, y->bytes, y->length, cb->bytes, cb->length, cr->bytes, cr->length,
         state, words);
     calls++;
     for (int i = 0; i < BUFFERS; i++) check_canaries(&lents[i]);
-    if (memcmp(take->before, take->bytes, take->length)) fail("the take was changed");
-    if (words[0] > REFUSED || number != words[6] || (number != 0) != (words[0] == REFUSED)) fail("an answer that can't be");
+    if (changed(take)) fail("the take was changed");
+    if (words[0] > REELPONY_REFUSAL || number != words[6] || (number != 0) != (words[0] == REELPONY_REFUSAL)) fail("an answer that can't be");
     if (number != 0 && (number < 10 || number > 19)) fail("a refusal that can't be");
     if (state[7] != before[7]) fail("the spare number was changed");
-    if ((words[0] == END || number == 19) && state[0] != before[0]) fail("the place was moved");
-    if (words[0] != END && number != 19 && (state[0] <= before[0] || state[0] > take->length)) fail("the place was not moved on");
-    if (words[0] != END && words[1] > take->length) fail("an offset outside of the take");
-    for (int i = 1; words[0] != PICTURE && i < 4; i++)
-        if (memcmp(lents[i].before, lents[i].bytes, lents[i].length)) fail("a plane was changed without a picture");
+    int stays = words[0] == REELPONY_END || number == REELPONY_REFUSED_PLANES;
+    if (stays && state[0] != before[0]) fail("the place was moved");
+    if (!stays && (state[0] <= before[0] || state[0] > take->length)) fail("the place was not moved on");
+    if (words[0] != REELPONY_END && words[1] > take->length) fail("an offset outside of the take");
+    for (int i = 1; words[0] != REELPONY_PICTURE && i < 4; i++)
+        if (changed(&lents[i])) fail("a plane was changed without a picture");
     answers[words[0]]++;
-    return number == 19 ? (uint64_t)END : words[0];
+    return !stays;
 }
 
 /* A take, a state and planes, read to the end or until 19 keeps the place. */
@@ -206,13 +220,14 @@ static void one_case(void) {
         size_t length = i > 1 && !colour ? below(3) : tight(i > 1);
         if (below(8) == 0 && length) length -= below(2) ? 1 : below(length);
         if (below(8) == 0) length += below(20);
+        if (below(16) == 0) length = 0;
         place(&lents[i], length);
         for (size_t k = 0; k < length; k++) lents[i].bytes[k] = (uint8_t)(k * 151 ^ number_of_case);
     }
     for (int i = 4; i < BUFFERS; i++) place(&lents[i], 64);
     draw_state((uint64_t *)(void *)lents[4].bytes);
     memset(lents[5].bytes, 0xEE, 64);
-    while (call() != END) {}
+    while (call()) {}
     for (int i = 0; i < BUFFERS; i++) if (lents[i].by_malloc) free(lents[i].bytes);
 }
 
@@ -240,9 +255,13 @@ int main(int argc, char **argv) {
         double end = now() + seconds;
         for (; number_of_case % CASES_A_LOOK || now() < end; number_of_case++) one_case();
         for (int i = 0; i < 5; i++) if (answers[i] == 0) fail("an answer was never met");
+        for (int i = 0; i < 4; i++) if (lents[i].nulls == 0) fail("a take or a plane was never NULL");
     }
-    printf("seed %llu: %llu cases, %llu calls: %llu end, %llu SPS, %llu PPS, %llu picture, %llu refused\nok\n", (unsigned long long)seed,
-        (unsigned long long)number_of_case, (unsigned long long)calls, (unsigned long long)answers[END], (unsigned long long)answers[SPS],
-        (unsigned long long)answers[PPS], (unsigned long long)answers[PICTURE], (unsigned long long)answers[REFUSED]);
+    uint64_t nulls = 0;
+    for (int i = 0; i < 4; i++) nulls += lents[i].nulls;
+    printf("seed %llu: %llu cases, %llu calls: %llu end, %llu SPS, %llu PPS, %llu picture, %llu refused; %llu times NULL was lent\nok\n",
+        (unsigned long long)seed, (unsigned long long)number_of_case, (unsigned long long)calls, (unsigned long long)answers[REELPONY_END],
+        (unsigned long long)answers[REELPONY_SPS], (unsigned long long)answers[REELPONY_PPS], (unsigned long long)answers[REELPONY_PICTURE],
+        (unsigned long long)answers[REELPONY_REFUSAL], (unsigned long long)nulls);
     return 0;
 }

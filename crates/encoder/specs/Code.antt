@@ -6,7 +6,7 @@
 use mathlib.Core.Path.{_≡_, refl, sym, ap, _∙_}
 use mathlib.Core.List.{List, [], _∷_, _++_, append-assoc, append-nil}
 use mathlib.Core.Bool.{true, cond}
-use Prim.Native.Nat.{ℕ, _+_, _*_, _≤_, _<_}
+use Prim.Native.Nat.{ℕ, _+_, _≤_, _<_}
 use native.Mathlib.Nat.{zero-add}
 use native.Mathlib.Omega.{arith}
 use lib.Dec.{leb}
@@ -31,7 +31,7 @@ use Rattle.ycbcr_image.specs.declared.YCbCrImage.{YCbCrImage}
 use Rattle.ycbcr_image.specs.Sizes.{Sequence, sequenceOf}
 use Rattle.ycbcr_image.specs.Refusals.{sessionOf, refusalOf, refusalNext, accepted}
 use Rattle.ycbcr_image.specs.Passed.{Passed, passed, passed-next}
-use Rattle.slice.specs.Picture.{Lends, pictureOf, pictureLength, picture-length, length-most}
+use Rattle.slice.specs.Picture.{Lends, pictureOf}
 use Rattle.slice.specs.Macroblocks.{Ready}
 use Rattle.slice.specs.Laid.{Laid, laid-more}
 use Rattle.encoder.specs.declared.Encoded.the-variants.{Written, NoRoom, Refused}
@@ -162,16 +162,10 @@ unfolding sets
 laid-sets q r f g =
     laid-more (framed ppsHeader ppsPayload) (omega (arith, length-append (framed spsHeader (spsPayload baseLevel q)) (framed ppsHeader ppsPayload))) (laid-framed f) (laid-framed g)
 
--- the length of a picture's unit, and the most that it can be
+-- the length of a picture's unit
 pub picture-size : (q : Sequence) (L : Lends) → length (pictureBytes q L) ≡ 5 + length (esc (pictureOf q L))
 unfolding pictureBytes
 picture-size q L = framed-length pictureHeader (pictureOf q L)
-
-pub picture-most : {q : Sequence} {L : Lends} → Ready q L → 2 * length (pictureBytes q L) ≤ 10 + 3 * pictureLength q
-picture-most {q} {L} r = omega (arith, picture-size q L, esc-most 0 (pictureOf q L), picture-length q L (r .fine) (r .whole))
-
-pub picture-few : {q : Sequence} {L : Lends} → Ready q L → length (pictureBytes q L) ≤ 909115402
-picture-few r = omega (arith, picture-most r, length-most (r .fine))
 
 pub picture-as : (q : Sequence) (L : Lends) {n : ℕ} → n ≡ length (esc (pictureOf q L)) → 5 + n ≡ length (pictureBytes q L)
 picture-as q L e = rw e (sym (picture-size q L))

@@ -15,11 +15,16 @@ ghost use Prim.Native.Nat.{_+_, _≤_};
 ghost use lib.ListN.{length};
 ghost use Rattle.ycbcr_image.specs.Sizes.{sequenceOf};
 ghost use Rattle.ycbcr_image.specs.Refusals.{accepted};
+ghost use Rattle.ycbcr_image.specs.Accepted.{Fine};
 ghost use Rattle.slice.specs.Laid.{Laid};
 ghost use Rattle.slice.specs.Macroblocks.{lends, Ready};
 ghost use Rattle.encoder.specs.Shot.{shot, imageOf};
 ghost use Rattle.encoder.specs.Answers.{startOf, startOut, nextOf, nextOut};
 ghost use Rattle.encoder.specs.Code.{sets, pictureBytes, lack};
+ghost use Rattle.encoder.specs.Room.{setsMost, pictureMost, roomOf};
+
+// The most that the units of both parameter sets have.
+const SETS_MOST: usize = 64;
 
 // The bits of a sample in each lent plane.
 pub struct Depths {
@@ -80,7 +85,7 @@ fn image_of(
 // The length of the units of both parameter sets.
 fn sets_len(s: Session) -> usize
     requires { ⌜ accepted (sequenceOf s) ≡ true ⌝ }
-    ensures { λ r. ⌜ (r ≡ length (sets (sequenceOf s))) × (r ≤ 64) ⌝ }
+    ensures { λ r. ⌜ (r ≡ length (sets (sequenceOf s))) × (r ≤ setsMost) ⌝ }
 {
     let sps = parameter_sets::sps(s, 10);
     let pps = parameter_sets::pps();
@@ -112,8 +117,28 @@ fn picture_len(y: &[u8], cb: &[u8], cr: &[u8], strides: Strides, s: Session) -> 
     5 + slice::count::escaped_len(y, cb, cr, strides, s)
 }
 
-// What the output lacks where `before` bytes and a picture's unit are to be written: 0 where there is room, else the length of all. An escape has at
-// most half as many bytes again as its payload, so where there is that much room nothing is counted.
+// The most that it can be: an escape has at most half as many bytes again as its payload.
+fn picture_most(s: Session) -> usize
+    requires { ⌜ Fine (sequenceOf s) ⌝ }
+    ensures { λ r. ⌜ r ≡ pictureMost (sequenceOf s) ⌝ }
+{
+    let n = slice::payload_len(s);
+    5 + n + n / 2
+}
+
+// A length of the output with which no call is refused with 9, whatever the samples, and no picture is counted first (`lacking`); 0 for a size that no call
+// accepts.
+pub fn room(s: Session) -> usize
+    ensures { λ r. ⌜ r ≡ roomOf (sequenceOf s) ⌝ }
+{
+    if !ycbcr_image::size_accepted(s) {
+        return 0;
+    }
+    SETS_MOST + picture_most(s)
+}
+
+// What the output lacks where `before` bytes and a picture's unit are to be written: 0 where there is room, else the length of all. Where there is room
+// for the most that the unit can be nothing is counted.
 fn lacking(
     y: &[u8],
     cb: &[u8],
@@ -124,11 +149,10 @@ fn lacking(
     room: usize,
 ) -> usize
     requires { ⌜ Ready (sequenceOf s) (lends (now y) (now cb) (now cr) strides) ⌝ }
-    requires { ⌜ before ≤ 64 ⌝ }
+    requires { ⌜ before ≤ setsMost ⌝ }
     ensures { λ r. ⌜ r ≡ lack (before + length (pictureBytes (sequenceOf s) (lends (now (y .entry)) (now (cb .entry)) (now (cr .entry)) strides))) room ⌝ }
 {
-    let n = slice::payload_len(s);
-    if before + 5 + n + n / 2 <= room {
+    if before + picture_most(s) <= room {
         return 0;
     }
     let need = before + picture_len(y, cb, cr, strides, s);

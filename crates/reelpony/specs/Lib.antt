@@ -3,3 +3,4 @@ pub mod Pieces
 pub mod Code
 pub mod Reading
 pub mod ReadingCode
+pub mod Room

@@ -12,6 +12,7 @@ use ycbcr_image::Session;
 ghost use mathlib.Core.Path.{_≡_};
 ghost use Rattle.encoder.specs.Answers.{numberOf, lengthOf};
 ghost use Rattle.reelpony.specs.Numbers.{colourKnown, depthKnown, known, kindOf, bitDepthOf, depthsOf, plane, shotOf, heldOf, wordsOf, wordsAfter, startNumber, startLength, startBuffer, startWords, nextNumber, nextLength, nextBuffer};
+ghost use Rattle.reelpony.specs.Room.{roomNumber};
 
 // Whether a number is a colour.
 fn colour_known(c: u32) -> bool
@@ -227,4 +228,22 @@ pub extern "C" fn reelpony_next(
     );
     *length = length_in(a) as u64;
     number(a)
+}
+
+// A length of the output with which no call with a picture of this size, colour and depth is refused with 9, whatever the samples; 0 where such a call is
+// refused with 99 or 1 to 5.
+#[no_mangle]
+pub extern "C" fn reelpony_room(width: u32, height: u32, colour: u32, depth: u32) -> u64
+    ensures { λ r. ⌜ r ≡ roomNumber width height colour depth ⌝ }
+{
+    if !all_known(colour, depth, depth, depth) {
+        return 0;
+    }
+    let s = Session {
+        width: width,
+        height: height,
+        kind: kind_of(colour),
+        depth: depth_of(depth),
+    };
+    encoder::room(s) as u64
 }

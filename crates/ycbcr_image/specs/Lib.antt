@@ -3,4 +3,5 @@ pub mod Sizes
 pub mod Refusals
 pub mod Accepted
 pub mod Passed
+pub mod Shape
 pub mod Cases

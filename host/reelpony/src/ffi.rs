@@ -48,6 +48,8 @@ extern "C" {
         length: &mut u64,
     ) -> u32;
 
+    fn reelpony_room(width: u32, height: u32, colour: u32, depth: u32) -> u64;
+
     fn reelpony_read(
         take: *const u8,
         take_len: usize,
@@ -211,6 +213,12 @@ fn call(next: bool, picture: &Picture, out: &mut [u8], session: &mut [u32; 8]) -
     Answer { number, length }
 }
 
+/// `reelpony_room`: a length of `out` with which neither call is refused with 9.
+pub fn room(width: u32, height: u32, colour: u32, depth: u32) -> u64 {
+    // Sound for any numbers: nothing is lent.
+    unsafe { reelpony_room(width, height, colour, depth) }
+}
+
 /// `reelpony_read`: the next thing in a take. The state is the place, whether an SPS is held, its
 /// width, height, colour and depth, whether a PPS is held, and a spare number. The answer begins
 /// as words that no call gives.
@@ -313,6 +321,16 @@ mod tests {
         kept + rest
     }
 
+    /// C's text without the functions that it defines itself.
+    fn without_inline(text: &str) -> String {
+        let mut parts = text.split("static inline ");
+        let mut kept = parts.next().unwrap().to_string();
+        for part in parts {
+            kept += part.split_once("\n}\n").expect("a body that ends").1;
+        }
+        kept
+    }
+
     /// A function's name, its parameters and its result.
     type Function = (String, Vec<Parameter>, String);
 
@@ -365,6 +383,7 @@ mod tests {
     #[test]
     fn declarations_are_the_headers() {
         let header = without_comments(include_str!("../../../include/reelpony.h"));
+        let header = without_inline(&header);
         let source = include_str!("ffi.rs").split_inclusive("\n}").next().unwrap();
         let mentions = [&header, source].map(|text| text.matches(" reelpony_").count());
 
@@ -389,5 +408,19 @@ mod tests {
                 assert_eq!(rust, c, "a parameter of {name}");
             }
         }
+    }
+
+    /// The header's version, as a text and in three numbers, is the crate's.
+    #[test]
+    fn version_is_the_headers() {
+        let header = include_str!("../../../include/reelpony.h");
+        let value = |name: &str| {
+            let (_, rest) = header.split_once(&format!("#define {name} ")).expect(name);
+            rest.lines().next().unwrap()
+        };
+        assert_eq!(value("REELPONY_VERSION"), format!("{:?}", env!("CARGO_PKG_VERSION")));
+        assert_eq!(value("REELPONY_VERSION_MAJOR"), env!("CARGO_PKG_VERSION_MAJOR"));
+        assert_eq!(value("REELPONY_VERSION_MINOR"), env!("CARGO_PKG_VERSION_MINOR"));
+        assert_eq!(value("REELPONY_VERSION_PATCH"), env!("CARGO_PKG_VERSION_PATCH"));
     }
 }

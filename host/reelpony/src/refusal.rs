@@ -202,6 +202,43 @@ mod tests {
         assert_eq!(sentences.collect::<BTreeSet<_>>().len(), listed.len());
     }
 
+    /// The number and the text that C has for each refusal's name, in the header's words.
+    fn header_texts() -> Vec<(String, u32, String)> {
+        let header = include_str!("../../../include/reelpony.h");
+        let number = |line: &str| {
+            let (name, number) =
+                line.trim().strip_prefix("REELPONY_REFUSED_")?.split_once(" = ")?;
+            Some((name.to_string(), number.trim_end_matches(',').parse::<u32>().unwrap()))
+        };
+        let text = |name: &str| {
+            let (_, line) =
+                header.split_once(&format!("case REELPONY_REFUSED_{name}: return \""))?;
+            Some(line.split_once("\";\n")?.0.to_string())
+        };
+        let numbers = header.lines().filter_map(number);
+        numbers.map(|(name, n)| (name.clone(), n, text(&name).expect(&name))).collect()
+    }
+
+    /// C's names are those of the values here, and its texts are their sentences. That of 9 has no
+    /// length in C.
+    #[test]
+    fn texts_are_the_headers() {
+        let texts = header_texts();
+        assert_eq!(texts.len(), 23);
+        for (name, number, text) in texts {
+            let refusal = Refusal::of(number, 286);
+            let value = format!("{refusal:?}").split(' ').next().unwrap().to_string();
+            let spelt = value.chars().enumerate().flat_map(|(i, c)| {
+                let gap = (i > 0 && c.is_uppercase()).then_some('_');
+                gap.into_iter().chain([c.to_ascii_uppercase()])
+            });
+            assert_eq!(name, spelt.collect::<String>(), "the name of {number}");
+            let sentence = refusal.to_string();
+            let sentence = sentence.strip_suffix(": 286 bytes are needed").unwrap_or(&sentence);
+            assert_eq!(text, sentence, "the text of {number}");
+        }
+    }
+
     /// Every number of the header comes back from the refusal that it makes, 9 with its length.
     #[test]
     fn numbers_come_back() {

@@ -3,25 +3,19 @@ use mathlib.Core.Path.{ap, _∙_}
 use Prim.Native.Nat.{ℕ, _+_}
 use native.Mathlib.Omega.{arith}
 use borrow.Author.Needs.{needs}
-use Rattle.slice.specs.Picture.{length-most}
-use Rattle.encoder.specs.Code.{picture-most, picture-few, lack-none, lack-some}
+use Rattle.encoder.specs.Code.{lack-none, lack-some}
+use Rattle.encoder.specs.Room.{most-few, picture-within, picture-few}
 use Rattle.encoder.proofs.lacking.Statement.{statement}
 use Rattle.encoder.proofs.lacking.Tie as tie
 
-payload-len-requires : tie.Need-payload-len-requires
-payload-len-requires c κs = c .before .before .before .pre .0 .fine
+picture-most-requires : tie.Need-picture-most-requires
+picture-most-requires c κs = c .before .before .before .pre .0 .fine
 
 add-if1 : tie.Need-add-if1
-add-if1 c = search needs
-
-add-if1-2 : tie.Need-add-if1-2
-add-if1-2 c = omega (arith, c .payload-len .ensures, length-most (c .before .before .before .before .pre .0 .fine), c .before .before .before .before .pre .1)
-
-add-if1-3 : tie.Need-add-if1-3
-add-if1-3 c = omega (arith, c .payload-len .ensures, length-most (c .before .before .before .before .pre .0 .fine), c .before .before .before .before .pre .1)
+add-if1 c = omega (arith, c .picture-most .ensures, most-few (c .before .before .before .before .pre .0 .fine), c .before .before .before .before .pre .1)
 
 returns : tie.Need-returns
-returns c = lack-none _ _ (omega (arith, c .if1 .taken, c .before .payload-len .ensures, picture-most (c .before .before .before .before .before .pre .0)))
+returns c = lack-none _ _ (omega (arith, c .if1 .taken, c .before .picture-most .ensures, picture-within (c .before .before .before .before .before .pre .0)))
 
 picture-len-requires : tie.Need-picture-len-requires
 picture-len-requires c κs = search needs
@@ -39,10 +33,8 @@ pub lacking-spec : {M : Type 1} → statement M
 lacking-spec =
     tie.close
     (tie.spec
-    payload-len-requires
+    picture-most-requires
     add-if1
-    add-if1-2
-    add-if1-3
     returns
     picture-len-requires
     add-need

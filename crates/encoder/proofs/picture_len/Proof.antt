@@ -3,7 +3,8 @@ use native.Mathlib.Omega.{arith}
 use borrow.Author.Needs.{needs}
 use Rattle.ycbcr_image.specs.Sizes.{sequenceOf}
 use Rattle.slice.specs.Macroblocks.{lends}
-use Rattle.encoder.specs.Code.{picture-few, picture-as}
+use Rattle.encoder.specs.Code.{picture-as}
+use Rattle.encoder.specs.Room.{picture-few}
 use Rattle.encoder.proofs.picture_len.Statement.{statement}
 use Rattle.encoder.proofs.picture_len.Tie as tie
 
