@@ -10,9 +10,9 @@ use reelpony::BitDepth::{Depth12, Depth8};
 use reelpony::Refusal;
 
 use crate::error::{Error, Outcome, Result};
-use crate::files::{Input, Output, Text};
+use crate::files::{Input, Name, Output, Replace, Text, Way};
 use crate::progress::Progress;
-use crate::record::record;
+use crate::record::{record, Broken};
 use crate::salvage::{save, RATE};
 use crate::scene::picture;
 use crate::sheet::{sheet, Row};
@@ -96,9 +96,14 @@ struct Saved {
 /// The command.
 pub fn run(folder: &Path) -> Result<Outcome> {
     let begun = Instant::now();
-    fs::create_dir_all(folder).map_err(|error| {
-        Error::Sentence(format!("the folder {} can't be made: {error}", folder.display()))
-    })?;
+    let name = Name::of(folder, "-");
+    let failed = |error| Error::Sentence(format!("the folder {name} can't be made: {error}"));
+    fs::create_dir_all(folder).map_err(failed)?;
+    if fs::read_dir(folder).map_err(failed)?.next().is_some() {
+        return Error::sentence(format!(
+            "the folder {name} is not empty; demo writes only to one that is, or isn't there yet"
+        ));
+    }
     let mut text = Text::new()?;
     text.line(format!(
         "Four shoots of {PICTURES} pictures, {WIDTH}x{HEIGHT}: written, cut, damaged and saved.\n"
@@ -160,8 +165,8 @@ pub fn run(folder: &Path) -> Result<Outcome> {
     text.line(format!(
         "\nEvery saved picture is equal to what was written, sample for sample: {compared} samples \
          compared.\nThe damaged takes with the lost pictures marked: {}\nAll files: {} ({:.1} s)",
-        folder.join("contact-sheet.png").display(),
-        folder.display(),
+        Name::of(&folder.join("contact-sheet.png"), ""),
+        Name::of(&folder, ""),
         begun.elapsed().as_secs_f32()
     ))?;
     text.finish()?;
@@ -173,8 +178,13 @@ fn line(take: &str, what: &str, saved: &str, lost: &str, why: &str, equal: &str)
     format!("{take:<17} {what:<24} {saved:<7} {lost:<7} {equal:<7} {why}")
 }
 
+/// Begins a file of the demo, which isn't there yet.
+fn begin(path: &Path) -> Result<Output> {
+    Output::create(path, &[], Replace::Never, Way::Straight)
+}
+
 fn create(path: &Path, bytes: &[u8]) -> Result<()> {
-    let mut output = Output::create(path, None)?;
+    let mut output = begin(path)?;
     output.write(bytes)?;
     output.finish()
 }
@@ -182,7 +192,7 @@ fn create(path: &Path, bytes: &[u8]) -> Result<()> {
 /// Writes a shoot as Y4M and records it from there. Answers the take.
 fn write(folder: &Path, shoot: &Shoot, pictures: &[Vec<u8>]) -> Result<Vec<u8>> {
     let raw = folder.join(shoot.name).with_extension("y4m");
-    let mut output = Output::create(&raw, None)?;
+    let mut output = begin(&raw)?;
     output.write(y4m::header(&shoot.shape, RATE).as_bytes())?;
     for picture in pictures {
         output.write(b"FRAME\n")?;
@@ -193,10 +203,13 @@ fn write(folder: &Path, shoot: &Shoot, pictures: &[Vec<u8>]) -> Result<Vec<u8>> 
     let input = Input::open(&raw)?;
     let mut source = Source::open(BufReader::new(input.file), &input.name)?;
     let take = folder.join(shoot.name).with_extension("h264");
-    let mut output = Output::create(&take, None)?;
-    record(&mut source, &mut output, &mut Progress::new(None))?;
+    let mut output = begin(&take)?;
+    let recorded = record(&mut source, &mut output, None, &mut Progress::new(None));
+    if let Some(Broken::Source(error) | Broken::Other(error)) = recorded.broken {
+        return Err(error);
+    }
     output.finish()?;
-    fs::read(&take).map_err(|error| Error::reading(take.display(), error))
+    fs::read(&take).map_err(|error| Error::reading(Name::of(&take, ""), error))
 }
 
 /// Where the pictures of a take begin, and how long they are.
@@ -219,7 +232,7 @@ fn salvage(folder: &Path, name: &str, bytes: &[u8], shape: &Sps) -> Result<Saved
     let input = Input::open(&take)?;
     let mut window = Window::with_samples(input.file);
     let raw = folder.join(name).with_extension("y4m");
-    let mut output = Output::create(&raw, None)?;
+    let mut output = begin(&raw)?;
     let mut lost = Vec::new();
     save(&mut window, &input.name, &mut output, RATE, &mut |found, _, _| {
         if let What::Refused(refusal) = found.what {
@@ -228,7 +241,7 @@ fn salvage(folder: &Path, name: &str, bytes: &[u8], shape: &Sps) -> Result<Saved
     })?;
     output.finish()?;
 
-    let saved = fs::read(&raw).map_err(|error| Error::reading(raw.display(), error))?;
+    let saved = fs::read(&raw).map_err(|error| Error::reading(Name::of(&raw, ""), error))?;
     let bytes_each = if shape.bit_depth == Depth12 { 2 } else { 1 };
     let samples: usize = y4m::visible(shape).iter().map(|(across, down)| across * down).sum();
     let pictures = saved.get(y4m::header(shape, RATE).len()..).unwrap_or(&[]);

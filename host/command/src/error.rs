@@ -38,7 +38,24 @@ impl Error {
     pub fn writing(name: impl Display, error: io::Error) -> Error {
         match error.kind() {
             io::ErrorKind::BrokenPipe => Error::BrokenPipe,
-            _ => Error::Sentence(format!("{name} can't be written: {error}")),
+            kind => {
+                let why = match kind {
+                    io::ErrorKind::StorageFull => "the disk is full".into(),
+                    io::ErrorKind::QuotaExceeded => "the quota of the disk is used up".into(),
+                    io::ErrorKind::FileTooLarge => "it may not get any longer".into(),
+                    _ => error.to_string(),
+                };
+                Error::Sentence(format!("{name} can't be written: {why}"))
+            }
+        }
+    }
+
+    /// The same with more behind it.
+    pub fn and(self, more: impl Display) -> Error {
+        match self {
+            Error::Sentence(text) => Error::Sentence(format!("{text}{more}")),
+            Error::Usage(text) => Error::Usage(format!("{text}{more}")),
+            Error::BrokenPipe => Error::BrokenPipe,
         }
     }
 

@@ -1,47 +1,36 @@
 //! The command `reelpony`: takes from Y4M and back, cut and damaged ones too.
 
-#![forbid(unsafe_code)]
+#![deny(unsafe_code)]
 
+mod arguments;
+mod capture;
 mod demo;
 mod error;
 mod files;
+mod help;
+mod kinds;
+mod names;
 mod png;
 mod progress;
 mod record;
 mod salvage;
 mod scene;
 mod sheet;
+#[allow(unsafe_code)]
+mod signals;
 mod y4m;
 
 use std::env;
 use std::ffi::OsString;
 use std::path::Path;
 use std::process::ExitCode;
+use std::thread;
 
+use arguments::{verb, Arguments};
 use error::{status, Error, Outcome, Result};
-use files::Text;
-
-const HELP: &str = "\
-Keeps pictures as H.264 takes, uncompressed, and gets them back.
-
-  reelpony record IN.y4m OUT.h264         writes a take from a Y4M (mono, mono12, 420, 420p12)
-  reelpony list TAKE                      shows each unit: offset, length, what it is
-  reelpony check TAKE                     says whether a take is whole, cut or damaged
-  reelpony extract TAKE OUT.y4m           saves every picture that can be saved
-           [--rate 25:1]                  the Y4M's pictures a second, which a take doesn't hold
-           [--like GOOD_TAKE]             where the first bytes are lost, list and check too: goes
-                                          by the parameter sets of a take of that size and kind
-  reelpony demo [DIR]                     writes a small shoot, damages it and saves it
-  reelpony help                           shows this
-
-A file named - is standard input or output. A result that is there already is replaced, once the
-new one is whole; until then it is called NAME.NUMBER.part.
-
-Status: 0 all is well; 3 a part: the take is cut or damaged, and what can be saved was; 1 failed,
-or there is no picture; 2 wrong usage. list gives 0 for every file that it can read.
-
-A take has no checksums: a sample that was changed to another can't be seen, and nor can a cut
-between two pictures.";
+use files::{Id, Replace, Target, Text};
+use salvage::Looking;
+use signals::{Signals, Woken};
 
 fn main() -> ExitCode {
     let arguments: Vec<OsString> = env::args_os().skip(1).collect();
@@ -55,56 +44,77 @@ fn main() -> ExitCode {
 }
 
 fn run(arguments: &[OsString]) -> Result<Outcome> {
-    let Some((command, rest)) = arguments.split_first() else {
+    let Some((first, rest)) = arguments.split_first() else {
         return Err(Error::Usage("a command is needed".into()));
     };
-    let command = command.to_string_lossy();
-    let mut files: Vec<&Path> = Vec::new();
-    let mut rate = salvage::RATE;
-    let mut like = None;
-    let mut rest = rest.iter();
-    while let Some(argument) = rest.next() {
-        match argument.to_str() {
-            Some("--rate") if command == "extract" => {
-                let value = rest.next().and_then(|value| value.to_str()).filter(|v| is_rate(v));
-                let wrong = "--rate needs two whole numbers like 30000:1001";
-                rate = value.ok_or_else(|| Error::Usage(wrong.into()))?;
-            }
-            Some("--like") if matches!(&*command, "list" | "check" | "extract") => {
-                let value = rest.next().map(Path::new);
-                like = Some(value.ok_or_else(|| Error::Usage("--like needs a take".into()))?);
-            }
-            Some(option) if option.starts_with('-') && option != "-" => {
-                return Err(Error::Usage(format!("{command} has no option {option}")));
-            }
-            _ => files.push(Path::new(argument)),
+    match (first.to_str(), rest) {
+        (Some("help" | "--help" | "-h"), []) => return show(help::ALL),
+        (Some("help"), [name]) => return show(verb(name)?.help),
+        (Some("--version" | "-V"), []) => {
+            return show(concat!("reelpony ", env!("CARGO_PKG_VERSION")))
         }
+        (Some("help"), _) => return Err(Error::Usage("help needs one command at most".into())),
+        (Some(alone @ ("--help" | "-h" | "--version" | "-V")), _) => {
+            return Err(Error::Usage(format!("{alone} stands alone")));
+        }
+        _ => {}
     }
-    match (&*command, &files[..]) {
-        ("record", [from, to]) => record::run(from, to),
-        ("list", [take]) => salvage::list(take, like),
-        ("check", [take]) => salvage::check(take, like),
-        ("extract", [from, to]) => salvage::extract(from, to, rate, like),
-        ("demo", []) => demo::run(Path::new("reelpony-demo")),
-        ("demo", [folder]) => demo::run(folder),
-        ("help" | "--help" | "-h", []) => {
-            let mut text = Text::new()?;
-            text.line(HELP)?;
-            text.finish()?;
-            Ok(Outcome::Complete)
+    let verb = verb(first)?;
+    let given = Arguments::read(verb, rest)?;
+    if given.help {
+        return show(verb.help);
+    }
+    let (like, size) = given.like_or_size()?;
+    let (strict, json) = (given.is_given("--strict"), given.is_given("--json"));
+    let looking = Looking { like, size, strict, json };
+    signals::ignore_file_size();
+    match (verb.name, &given.files[..]) {
+        ("record", [from, to]) => {
+            let (replace, quiet) = (given.replace()?, given.is_given("--quiet"));
+            let sets_every = given.number("--sets-every")?;
+            record::run(from, to, &record::Options { replace, sets_every, quiet })
         }
-        ("record" | "extract", _) => {
-            Err(Error::Usage(format!("{command} needs two files, from and to")))
+        ("list", [take]) => {
+            not_onto(take, &looking)?;
+            salvage::list(take, &looking)
         }
-        ("list" | "check", _) => Err(Error::Usage(format!("{command} needs one take"))),
-        ("demo", _) => Err(Error::Usage("demo needs one folder at most".into())),
-        ("help" | "--help" | "-h", _) => Err(Error::Usage("help stands alone".into())),
-        _ => Err(Error::Usage(format!("there is no command {command:?}"))),
+        ("check", [take]) => {
+            not_onto(take, &looking)?;
+            salvage::check(take, &looking)
+        }
+        ("extract", [from, to]) => {
+            let (rate, replace) = (given.rate()?.unwrap_or(salvage::RATE), given.replace()?);
+            let part = given.number("--part")?;
+            leave_no_part();
+            salvage::extract(from, to, rate, replace, part, &looking)
+        }
+        (_, [folder]) => demo::run(folder),
+        _ => demo::run(Path::new("reelpony-demo")),
     }
 }
 
-/// Two numbers from 1 on, with a colon between.
-fn is_rate(text: &str) -> bool {
-    let number = |text: &str| text.parse::<u32>().is_ok_and(|number| number > 0);
-    text.split_once(':').is_some_and(|(pictures, seconds)| number(pictures) && number(seconds))
+/// Shows a text.
+fn show(help: &str) -> Result<Outcome> {
+    let mut text = Text::new()?;
+    text.line(help)?;
+    text.finish()?;
+    Ok(Outcome::Complete)
+}
+
+/// An error if standard output is one of the takes that are read: what is said of a take is not
+/// added to it.
+fn not_onto(take: &Path, looking: &Looking) -> Result<()> {
+    let read = [Id::of_path(take), looking.like.and_then(Id::of_path)];
+    Target::find(Path::new("-"), &read, Replace::Never).map(|_| ())
+}
+
+/// From now on a signal that ends the program takes away what has no final name yet. Where signals
+/// can't be caught, such a file is left.
+fn leave_no_part() {
+    let Ok(signals) = Signals::catch() else { return };
+    thread::spawn(move || {
+        if let Ok(Woken::Signal(signal)) = signals.wait(None, None) {
+            files::abandon(|| signal.die());
+        }
+    });
 }

@@ -8,13 +8,24 @@ use reelpony::reader::Sps;
 use reelpony::Refusal;
 
 use crate::error::{Error, Outcome, Result};
-use crate::files::{Input, Name, Output, Text};
+use crate::files::{Id, Input, Name, Output, Replace, Text, Way};
 use crate::progress::{counted, Progress};
 use crate::y4m;
 use reelpony::window::{Found, What, Window};
 
 /// Pictures a second that a Y4M gets, since a take doesn't hold them.
 pub const RATE: &str = "25:1";
+
+/// How a take is looked at.
+#[derive(Default)]
+pub struct Looking<'a> {
+    /// The take whose parameter sets are held from the begin.
+    pub like: Option<&'a Path>,
+    /// The same as a size and a kind.
+    pub size: Option<Sps>,
+    pub strict: bool,
+    pub json: bool,
+}
 
 /// Refusals that are told one by one; `list` tells all.
 const TOLD: u64 = 200;
@@ -98,7 +109,7 @@ fn open(
     like: Option<&Path>,
     window: fn(File) -> Window<File>,
 ) -> Result<(Window<File>, Name, Progress)> {
-    let Input { file, name, length } = Input::open(take)?;
+    let Input { file, name, length, .. } = Input::open(take)?;
     let mut window = window(file);
     if let Some(like) = like {
         let sps = sps_of(like)?;
@@ -121,8 +132,8 @@ fn sps_of(take: &Path) -> Result<Sps> {
     Error::sentence(format!("{name} has no parameter sets to go by"))
 }
 
-pub fn list(path: &Path, like: Option<&Path>) -> Result<Outcome> {
-    let (mut window, name, mut progress) = open(path, like, Window::new)?;
+pub fn list(path: &Path, looking: &Looking) -> Result<Outcome> {
+    let (mut window, name, mut progress) = open(path, looking.like, Window::new)?;
     let mut text = Text::new()?;
     let on_terminal = io::stdout().is_terminal();
     let mut tally = Tally { shape: window.sps(), ..Tally::default() };
@@ -151,8 +162,8 @@ pub fn list(path: &Path, like: Option<&Path>) -> Result<Outcome> {
     Ok(Outcome::Complete)
 }
 
-pub fn check(path: &Path, like: Option<&Path>) -> Result<Outcome> {
-    let (mut window, name, mut progress) = open(path, like, Window::new)?;
+pub fn check(path: &Path, looking: &Looking) -> Result<Outcome> {
+    let (mut window, name, mut progress) = open(path, looking.like, Window::new)?;
     let mut tally = Tally { shape: window.sps(), ..Tally::default() };
     while let Some(found) = window.next().map_err(|error| Error::reading(&name, error))? {
         tally.add(&found);
@@ -186,9 +197,17 @@ pub fn check(path: &Path, like: Option<&Path>) -> Result<Outcome> {
 }
 
 /// The command: saves what can be saved, and says what was lost.
-pub fn extract(from: &Path, to: &Path, rate: &str, like: Option<&Path>) -> Result<Outcome> {
-    let (mut window, take, mut progress) = open(from, like, Window::with_samples)?;
-    let mut output = Output::create(to, Some(from))?;
+pub fn extract(
+    from: &Path,
+    to: &Path,
+    rate: &str,
+    replace: Replace,
+    _part: Option<u64>,
+    looking: &Looking,
+) -> Result<Outcome> {
+    let (mut window, take, mut progress) = open(from, looking.like, Window::with_samples)?;
+    let read = [Id::of_path(from), looking.like.and_then(Id::of_path)];
+    let mut output = Output::create(to, &read, replace, Way::ByPart)?;
     let tally = save(&mut window, &take, &mut output, rate, &mut |found, tally, offset| {
         if let What::Refused(refusal) = found.what {
             if tally.refused <= TOLD {

@@ -2,7 +2,8 @@
 //! picture is a line that begins with FRAME, then the planes in tight rows. Samples of 12 bits are
 //! two bytes each, the low one first; in a take two of them stand in three bytes.
 
-use std::io::{self, BufRead, Read};
+use std::fs::File;
+use std::io::{self, BufRead, BufReader, Read};
 
 use reelpony::reader::Sps;
 use reelpony::ycbcr_image::{DataPlane, Planes, YCbCrImage};
@@ -10,17 +11,43 @@ use reelpony::BitDepth::{self, Depth12, Depth8};
 
 use crate::error::{Error, Result};
 use crate::files::{Name, Output};
+use crate::kinds;
+use crate::names::shown;
 use reelpony::window::zeros;
 
-/// Lines are not longer than this.
-const LONGEST_LINE: u64 = 4096;
+/// Of a line no more is looked at, and a longer one is refused.
+const LONGEST_LINE: usize = 4096;
+
+/// Where a Y4M's bytes come from. It is told where in the Y4M they are, so that a live source can be
+/// ended between two pictures.
+pub trait Feed: BufRead {
+    /// The next byte, if there is one, begins a picture.
+    fn between(&mut self) {}
+
+    /// The next so many bytes are a picture's samples, all of them.
+    fn samples(&mut self, _length: usize) {}
+}
+
+impl Feed for &[u8] {}
+
+impl Feed for BufReader<File> {}
+
+impl<F: Feed> Feed for &mut F {
+    fn between(&mut self) {
+        (**self).between();
+    }
+
+    fn samples(&mut self, length: usize) {
+        (**self).samples(length);
+    }
+}
 
 /// What a Y4M's header says.
 #[derive(Debug, PartialEq, Eq)]
 pub struct Header {
     pub shape: Sps,
-    /// What it says of its samples that a take can't say, in words.
-    pub unkept: Vec<&'static str>,
+    /// What it says that a take can't say, in words.
+    pub unkept: Vec<String>,
 }
 
 /// A Y4M that is read picture by picture.
@@ -29,6 +56,8 @@ pub struct Source<R> {
     name: Name,
     pub header: Header,
     planes: Vec<Plane>,
+    /// Bytes of a picture's samples.
+    length: usize,
     /// A row of 12-bit samples as they are read.
     row: Vec<u8>,
     pub pictures: u64,
@@ -46,14 +75,23 @@ struct Plane {
     down: usize,
 }
 
-impl<R: BufRead> Source<R> {
+impl<R: Feed> Source<R> {
     /// Reads the header. Sizes and kinds that no take can have are an error.
     pub fn open(mut input: R, name: &Name) -> Result<Source<R>> {
-        let line = line(&mut input).map_err(|error| Error::reading(name, error))?;
-        let header = match line.as_deref().map(Header::parse) {
-            Some(Ok(header)) => header,
-            Some(Err(text)) => return Error::sentence(format!("{name} {text}")),
-            None => return Error::sentence(format!("{name} {NO_Y4M}")),
+        let failed = |error| Error::reading(name, error);
+        // What comes first, for a file that is no Y4M.
+        let first = input.fill_buf().map_err(failed)?;
+        let first = first[..first.len().min(kinds::FIRST)].to_vec();
+        let Line { text: line, end } = line(&mut input).map_err(failed)?;
+        if !is_y4m(&line) {
+            return Error::sentence(format!("{name} {}", no_y4m(&first)));
+        }
+        if end == End::TooLong {
+            return Error::sentence(format!("{name} can't be read: its first line {TOO_LONG}"));
+        }
+        let header = match Header::parse(&line) {
+            Ok(header) => header,
+            Err(text) => return Error::sentence(format!("{name} {text}")),
         };
         if let Some(text) = refused(&header.shape) {
             return Error::sentence(format!("{name} can't become a take: {text}"));
@@ -61,28 +99,42 @@ impl<R: BufRead> Source<R> {
         let out_of_memory = |error| Error::reading(name, error);
         let shape = header.shape;
         let mut planes = Vec::new();
+        let mut length = 0;
         for (plane, (across, down)) in visible(&shape).into_iter().enumerate() {
             let side = if plane == 0 { 16 } else { 8 };
             let stride = row_bytes(shape.bit_depth, across.div_ceil(side) * side);
             let data = zeros(stride * down.div_ceil(side) * side).map_err(out_of_memory)?;
+            length += across * down * bytes_each(shape.bit_depth);
             planes.push(Plane { name: ["Y", "Cb", "Cr"][plane], data, stride, across, down });
         }
         let row = vec![0; 2 * shape.width as usize];
-        let bytes = line.map_or(0, |line| line.len() as u64 + 1);
-        Ok(Source { input, name: name.clone(), header, planes, row, pictures: 0, bytes })
+        let bytes = line.len() as u64 + 1;
+        Ok(Source { input, name: name.clone(), header, planes, length, row, pictures: 0, bytes })
     }
 
     /// Reads the next picture, if there is one.
     pub fn next(&mut self) -> Result<Option<YCbCrImage<'_>>> {
         let number = self.pictures + 1;
         let name = &self.name;
-        let Some(line) = line(&mut self.input).map_err(|error| Error::reading(name, error))? else {
-            return Ok(None);
-        };
-        if line != b"FRAME" && !line.starts_with(b"FRAME ") {
-            return Error::sentence(format!("{name}: no FRAME stands before picture {number}"));
+        let cut = || Error::Sentence(format!("{name} is cut short: picture {number} is not whole"));
+        self.input.between();
+        let line = line(&mut self.input).map_err(|error| Error::reading(name, error))?;
+        let is_frame = line.text == b"FRAME" || line.text.starts_with(b"FRAME ");
+        match line.end {
+            End::Cut if line.text.is_empty() => return Ok(None),
+            End::Cut if is_frame || b"FRAME".starts_with(&line.text) => return Err(cut()),
+            End::TooLong if is_frame => {
+                return Error::sentence(format!(
+                    "{name}: the line before picture {number} {TOO_LONG}"
+                ));
+            }
+            End::Whole if is_frame => {}
+            _ => {
+                return Error::sentence(format!("{name}: no FRAME stands before picture {number}"))
+            }
         }
-        self.bytes += line.len() as u64 + 1;
+        self.bytes += line.text.len() as u64 + 1;
+        self.input.samples(self.length);
         let Sps { bit_depth, width, height, .. } = self.header.shape;
         for plane in &mut self.planes {
             plane.read(&mut self.input, bit_depth, &mut self.row).map_err(|fault| match fault {
@@ -91,14 +143,11 @@ impl<R: BufRead> Source<R> {
                      12 bits end at 4095",
                     plane.name
                 )),
-                Fault::Read(error) if error.kind() == io::ErrorKind::UnexpectedEof => {
-                    Error::Sentence(format!("{name} is cut short: picture {number} is not whole"))
-                }
+                Fault::Read(error) if error.kind() == io::ErrorKind::UnexpectedEof => cut(),
                 Fault::Read(error) => Error::reading(name, error),
             })?;
-            let bytes_each = if bit_depth == Depth12 { 2 } else { 1 };
-            self.bytes += (plane.across * plane.down * bytes_each) as u64;
         }
+        self.bytes += self.length as u64;
         self.pictures = number;
         let lent = |plane: &'_ Plane| DataPlane { stride: plane.stride, bit_depth, data: &[] };
         let planes = match &self.planes[..] {
@@ -187,20 +236,37 @@ fn unpack(packed: &[u8], row: &mut [u8]) {
     }
 }
 
-const NO_Y4M: &str = "is not a Y4M file: it doesn't begin with a line YUV4MPEG2";
+const TOO_LONG: &str = "is longer than the 4,096 bytes that are looked at";
+
+/// Whether a line is a Y4M's first one.
+fn is_y4m(line: &[u8]) -> bool {
+    line == b"YUV4MPEG2" || line.starts_with(b"YUV4MPEG2 ")
+}
+
+/// What a file is that is no Y4M, in words that follow its name.
+fn no_y4m(first: &[u8]) -> String {
+    match kinds::told(first) {
+        _ if kinds::is_byte_stream(first) => {
+            "is a take or another H.264 byte stream, not a Y4M; extract reads it".into()
+        }
+        // Only nearly one: its first word goes on.
+        Some(_) if first.starts_with(b"YUV4MPEG2") => NO_Y4M.into(),
+        Some(words) => format!("{words}, not a Y4M"),
+        None => NO_Y4M.into(),
+    }
+}
+
+const NO_Y4M: &str = "is not a Y4M: it doesn't begin with a line YUV4MPEG2";
 
 impl Header {
     /// From the first line. An error is what to say behind the file's name.
     fn parse(line: &[u8]) -> std::result::Result<Header, String> {
         let line = String::from_utf8_lossy(line);
-        let mut fields = line.split(' ');
-        if fields.next() != Some("YUV4MPEG2") {
-            return Err(NO_Y4M.into());
-        }
         let mut kind = "420";
         let mut sides = [None; 2];
+        let mut range = "";
         let mut unkept = Vec::new();
-        for field in fields {
+        for field in line.split(' ').skip(1) {
             let mut letters = field.chars();
             let letter = letters.next();
             let value = letters.as_str();
@@ -208,32 +274,74 @@ impl Header {
                 Some('W') => sides[0] = value.parse().ok(),
                 Some('H') => sides[1] = value.parse().ok(),
                 Some('C') => kind = value,
+                Some('F') if value != "0:0" => unkept.push(format!(
+                    "a take has no frame rate; to get {0} back, extract with --rate {0}",
+                    shown(value)
+                )),
+                Some('A') if !matches!(value, "0:0" | "1:1") => unkept.push(format!(
+                    "its samples are {} as wide as high, and a take doesn't say so",
+                    shown(value)
+                )),
                 Some('I') if !matches!(value, "p" | "?") => {
-                    unkept.push("it is interlaced, and a take doesn't say so");
+                    unkept.push("it is interlaced, and a take doesn't say so".into());
                 }
-                Some('X') if value == "COLORRANGE=LIMITED" => {
-                    unkept.push("its samples are of limited range, and a take says full range");
-                }
+                Some('X') => range = value.strip_prefix("COLORRANGE=").unwrap_or(range),
                 _ => {}
             }
         }
-        let [Some(width), Some(height)] = sides else {
-            return Err("is not a Y4M file: its first line has no width and height".into());
-        };
-        let (colour, bit_depth) = match kind {
-            "mono" => (false, Depth8),
-            "mono12" => (false, Depth12),
-            "420" | "420jpeg" | "420mpeg2" | "420paldv" => (true, Depth8),
-            "420p12" => (true, Depth12),
-            _ => {
-                return Err(format!(
-                    "is of the kind {kind:?}, which no take can have: only mono, mono12, 420 and \
-                     420p12"
-                ))
+        match range {
+            "FULL" => {}
+            "LIMITED" => {
+                unkept.push("its samples are of limited range, and a take says full range".into());
             }
+            _ => unkept.push("it doesn't say its range, and is taken as full range".into()),
+        }
+        let [Some(width), Some(height)] = sides else {
+            return Err("is no Y4M that can be read: its first line has no width and height".into());
         };
+        let (colour, bit_depth) = kind_of(kind).ok_or_else(|| {
+            format!(
+                "is of the kind \"{}\", which no take can have: only mono, mono12, 420 and 420p12",
+                shown(kind)
+            )
+        })?;
+        if let "420mpeg2" | "420paldv" = kind {
+            unkept.push(format!(
+                "its chroma is sited as {kind} has it, and a take doesn't say so; extract writes \
+                 420jpeg"
+            ));
+        }
         Ok(Header { shape: Sps { width, height, colour, bit_depth }, unkept })
     }
+}
+
+/// Whether a kind of samples is colour, and how deep they are; None for what no take can have.
+fn kind_of(kind: &str) -> Option<(bool, BitDepth)> {
+    match kind {
+        "mono" => Some((false, Depth8)),
+        "mono12" => Some((false, Depth12)),
+        "420" | "420jpeg" | "420mpeg2" | "420paldv" => Some((true, Depth8)),
+        "420p12" => Some((true, Depth12)),
+        _ => None,
+    }
+}
+
+/// A size and a kind as an option gives them: `640x480:420p12`. An error is what is wrong with it.
+pub fn shape_of(text: &str) -> std::result::Result<Sps, String> {
+    let form = || {
+        "needs a size and a kind like 640x480:420, the kind being mono, mono12, 420 or 420p12"
+            .to_string()
+    };
+    let (size, kind) = text.split_once(':').ok_or_else(form)?;
+    let (width, height) = size.split_once('x').ok_or_else(form)?;
+    let side = |text: &str| match text.bytes().all(|byte| byte.is_ascii_digit()) {
+        true => text.parse().map_err(|_| form()),
+        false => Err(form()),
+    };
+    let (width, height) = (side(width)?, side(height)?);
+    let (colour, bit_depth) = kind_of(kind).ok_or_else(form)?;
+    let shape = Sps { width, height, colour, bit_depth };
+    refused(&shape).map_or(Ok(shape), Err)
 }
 
 /// Why no take can have pictures like these. The library is asked with planes of no bytes: it looks
@@ -277,14 +385,44 @@ fn row_bytes(depth: BitDepth, samples: usize) -> usize {
     samples * usize::from(depth.num_bits()) / 8
 }
 
-/// The next line without its end; None at the end of the file. A longer one than lines are is cut.
-fn line(input: &mut impl BufRead) -> io::Result<Option<Vec<u8>>> {
-    let mut line = Vec::new();
-    let length = input.take(LONGEST_LINE).read_until(b'\n', &mut line)?;
-    if line.last() == Some(&b'\n') {
-        line.pop();
+/// Bytes of a sample in a Y4M.
+fn bytes_each(depth: BitDepth) -> usize {
+    match depth {
+        Depth8 => 1,
+        Depth12 => 2,
     }
-    Ok((length > 0).then_some(line))
+}
+
+/// A line without its end.
+struct Line {
+    text: Vec<u8>,
+    end: End,
+}
+
+/// How a line ends.
+#[derive(PartialEq, Eq)]
+enum End {
+    /// As lines do.
+    Whole,
+    /// With the file.
+    Cut,
+    /// It goes on.
+    TooLong,
+}
+
+/// The next line; an empty one that is cut at the end of the file.
+fn line(input: &mut impl BufRead) -> io::Result<Line> {
+    let mut text = Vec::new();
+    input.take(LONGEST_LINE as u64 + 1).read_until(b'\n', &mut text)?;
+    let end = match text.last() {
+        Some(b'\n') => {
+            text.pop();
+            End::Whole
+        }
+        _ if text.len() > LONGEST_LINE => End::TooLong,
+        _ => End::Cut,
+    };
+    Ok(Line { text, end })
 }
 
 /// The header of a Y4M of such pictures, so many a second.
@@ -338,18 +476,65 @@ mod tests {
             ("YUV4MPEG2 C420p12 H9 W7 XYSCSS=420P12", shape(7, 9, true, Depth12)),
             ("YUV4MPEG2 W1 H1 Cmono12 I?", shape(1, 1, false, Depth12)),
         ] {
-            let header = Header::parse(line.as_bytes());
-            assert_eq!(header, Ok(Header { shape: wanted, unkept: vec![] }), "{line}");
+            let header = Header::parse(line.as_bytes()).map(|header| header.shape);
+            assert_eq!(header, Ok(wanted), "{line}");
         }
         for shape in [shape(18, 10, true, Depth8), shape(4, 2, true, Depth12)] {
             let line = header(&shape, "25:1");
-            let header = Header::parse(line.trim_end().as_bytes());
-            assert_eq!(header, Ok(Header { shape, unkept: vec![] }));
+            let header = Header::parse(line.trim_end().as_bytes()).map(|header| header.shape);
+            assert_eq!(header, Ok(shape));
         }
-        let header = Header::parse(b"YUV4MPEG2 W2 H2 It XCOLORRANGE=LIMITED").unwrap();
-        assert_eq!(header.unkept.len(), 2);
-        for line in ["", "YUV4MPEG", "YUV4MPEG2", "YUV4MPEG2 W2", "YUV4MPEG2 Wx H2", "\u{fffd}"] {
+        for line in ["YUV4MPEG2", "YUV4MPEG2 W2", "YUV4MPEG2 Wx H2", "YUV4MPEG2 W2 H2 C422"] {
             assert!(Header::parse(line.as_bytes()).is_err(), "{line}");
+        }
+        for (line, is) in [
+            ("YUV4MPEG2", true),
+            ("YUV4MPEG2 W2", true),
+            ("YUV4MPEG2W2", false),
+            ("YUV4MPEG", false),
+            ("", false),
+        ] {
+            assert_eq!(is_y4m(line.as_bytes()), is, "{line}");
+        }
+    }
+
+    /// Each thing that a take can't keep is told, and nothing else.
+    #[test]
+    fn unkept() {
+        for (fields, words) in [
+            ("XCOLORRANGE=FULL", &[][..]),
+            ("F0:0 Ip A0:0 C420jpeg XYSCSS=420JPEG XCOLORRANGE=FULL", &[]),
+            ("A1:1 I? Cmono XCOLORRANGE=FULL", &[]),
+            ("", &["doesn't say its range"]),
+            ("XCOLORRANGE=LIMITED", &["limited range"]),
+            ("F30000:1001 XCOLORRANGE=FULL", &["--rate 30000:1001"]),
+            ("A10:11 XCOLORRANGE=FULL", &["10:11"]),
+            ("It XCOLORRANGE=FULL", &["interlaced"]),
+            ("C420mpeg2 XCOLORRANGE=FULL", &["sited as 420mpeg2"]),
+            ("C420paldv XCOLORRANGE=FULL", &["sited as 420paldv"]),
+            ("F1:1\x1b[2J XCOLORRANGE=FULL", &["1:1\\x1b[2J"]),
+            (
+                "F24:1 A2:1 Im C420mpeg2",
+                &["--rate 24:1", "2:1 as wide", "interlaced", "range", "sited"],
+            ),
+        ] {
+            let header = Header::parse(format!("YUV4MPEG2 W2 H2 {fields}").as_bytes()).unwrap();
+            assert_eq!(header.unkept.len(), words.len(), "{fields}: {:?}", header.unkept);
+            for (told, words) in header.unkept.iter().zip(words) {
+                assert!(told.contains(words), "{fields}: {told}");
+            }
+        }
+    }
+
+    #[test]
+    fn shapes() {
+        assert_eq!(shape_of("640x480:420"), Ok(shape(640, 480, true, Depth8)));
+        assert_eq!(shape_of("18x5:mono12"), Ok(shape(18, 5, false, Depth12)));
+        for text in ["", "640x480", "640:420", "640x480:422", "+1x1:mono", "x1:mono", "1x1:mono "] {
+            assert!(shape_of(text).is_err_and(|text| text.contains("like 640x480:420")), "{text}");
+        }
+        for text in ["0x1:mono", "16385x1:mono", "1x2:420", "6x2:420p12"] {
+            assert!(shape_of(text).is_err_and(|text| text.contains("and this is")), "{text}");
         }
     }
 

@@ -1,189 +1,16 @@
 //! The command as a person runs it, on real files: good ones, cut, damaged and empty ones, files
 //! that are something else, and names that lead nowhere.
 
+mod helpers;
+
 use std::fs;
-use std::io::{Read, Write};
-use std::path::{Path, PathBuf};
-use std::process::{Command, Output, Stdio};
+use std::io::Read;
+use std::path::Path;
+use std::process::Stdio;
 
-use common::Noise;
-
-/// An empty folder of a test's own.
-fn folder(name: &str) -> PathBuf {
-    let folder = Path::new(env!("CARGO_TARGET_TMPDIR")).join("command").join(name);
-    let _ = fs::remove_dir_all(&folder);
-    fs::create_dir_all(&folder).unwrap();
-    folder
-}
-
-fn command(folder: &Path, arguments: &[&str]) -> Command {
-    let mut command = Command::new(env!("CARGO_BIN_EXE_reelpony"));
-    command.args(arguments).current_dir(folder).stdin(Stdio::null());
-    command
-}
-
-/// What a run left: its status, and what it wrote.
-struct Ran {
-    status: i32,
-    out: Vec<u8>,
-    said: String,
-}
-
-impl Ran {
-    fn of(output: Output) -> Ran {
-        let said = String::from_utf8(output.stderr).unwrap();
-        assert!(!said.contains("panicked"), "{said}");
-        Ran { status: output.status.code().expect("no signal"), out: output.stdout, said }
-    }
-
-    fn text(&self) -> &str {
-        std::str::from_utf8(&self.out).unwrap()
-    }
-}
-
-fn run(folder: &Path, arguments: &[&str]) -> Ran {
-    Ran::of(command(folder, arguments).output().unwrap())
-}
-
-/// A run that reads bytes from its standard input.
-fn run_with(folder: &Path, arguments: &[&str], input: &[u8]) -> Ran {
-    let mut child = command(folder, arguments)
-        .stdin(Stdio::piped())
-        .stdout(Stdio::piped())
-        .stderr(Stdio::piped())
-        .spawn()
-        .unwrap();
-    let mut pipe = child.stdin.take().unwrap();
-    std::thread::scope(|scope| {
-        scope.spawn(move || {
-            let _ = pipe.write_all(input);
-        });
-        Ran::of(child.wait_with_output().unwrap())
-    })
-}
-
-/// A run that must fail with one sentence on standard error and nothing else.
-fn fails(folder: &Path, arguments: &[&str], status: i32, part: &str) {
-    let ran = run(folder, arguments);
-    assert_eq!(ran.status, status, "{arguments:?}: {}", ran.said);
-    assert!(ran.said.contains(part), "{arguments:?}: {}", ran.said);
-    assert_eq!(ran.said.lines().count(), 1, "{arguments:?}: {}", ran.said);
-    assert!(ran.out.is_empty(), "{arguments:?}");
-}
-
-/// The names of a folder's files, sorted.
-fn names(folder: &Path) -> Vec<String> {
-    let name = |entry: std::io::Result<fs::DirEntry>| entry.unwrap().file_name();
-    let names = fs::read_dir(folder).unwrap().map(name);
-    let mut names: Vec<String> = names.map(|name| name.into_string().unwrap()).collect();
-    names.sort();
-    names
-}
-
-struct Kind {
-    y4m: &'static str,
-    words: &'static str,
-    width: usize,
-    height: usize,
-    samples: usize,
-    twelve: bool,
-}
-
-const KINDS: [Kind; 4] = [
-    Kind {
-        y4m: "mono",
-        words: "17x5, monochrome, 8 bits",
-        width: 17,
-        height: 5,
-        samples: 85,
-        twelve: false,
-    },
-    Kind {
-        y4m: "mono12",
-        words: "18x33, monochrome, 12 bits",
-        width: 18,
-        height: 33,
-        samples: 594,
-        twelve: true,
-    },
-    Kind {
-        y4m: "420jpeg",
-        words: "34x18, colour, 8 bits",
-        width: 34,
-        height: 18,
-        samples: 918,
-        twelve: false,
-    },
-    Kind {
-        y4m: "420p12",
-        words: "20x2, colour, 12 bits",
-        width: 20,
-        height: 2,
-        samples: 60,
-        twelve: true,
-    },
-];
-
-impl Kind {
-    /// A Y4M's pictures without its header, of noise and of many zeros.
-    fn pictures(&self, count: u64) -> Vec<u8> {
-        let mut bytes = Vec::new();
-        for number in 0..count {
-            let mut noise = Noise::new(3, number);
-            let range = noise.pick(&[2, 256]);
-            bytes.extend(b"FRAME\n");
-            for _ in 0..self.samples {
-                bytes.push(noise.below(range) as u8);
-                if self.twelve {
-                    bytes.push(noise.below(range.min(16)) as u8);
-                }
-            }
-        }
-        bytes
-    }
-
-    fn header(&self) -> String {
-        let Kind { y4m, width, height, .. } = self;
-        format!("YUV4MPEG2 W{width} H{height} F25:1 Ip A1:1 C{y4m}\n")
-    }
-
-    fn y4m(&self, count: u64) -> Vec<u8> {
-        [self.header().into_bytes(), self.pictures(count)].concat()
-    }
-
-    /// The same as the command writes it.
-    fn is_saved(&self, saved: &[u8], pictures: &[u8]) -> bool {
-        let end = saved.iter().position(|byte| *byte == b'\n').unwrap() + 1;
-        let header = String::from_utf8_lossy(&saved[..end]);
-        header.starts_with(&format!("YUV4MPEG2 W{} H{} F25:1 ", self.width, self.height))
-            && header.contains(&format!(" C{} ", self.y4m))
-            && saved[end..] == *pictures
-    }
-
-    /// Bytes of a picture in a Y4M.
-    fn each(&self) -> usize {
-        6 + self.samples * if self.twelve { 2 } else { 1 }
-    }
-}
-
-/// A folder with the take of a kind, `take.h264`, and each picture's place and length in it.
-fn recorded(name: &str, kind: &Kind, count: u64) -> (PathBuf, Vec<u8>, Vec<(usize, usize)>) {
-    let folder = folder(name);
-    fs::write(folder.join("in.y4m"), kind.y4m(count)).unwrap();
-    let ran = run(&folder, &["record", "in.y4m", "take.h264"]);
-    assert_eq!(ran.status, 0, "{}", ran.said);
-    let list = run(&folder, &["list", "take.h264"]);
-    let places = list.text().lines().filter(|line| line.contains("  picture "));
-    let places = places.filter(|line| !line.contains("parameter")).map(|line| {
-        let numbers: Vec<usize> =
-            line.split_whitespace().take(2).map(|word| word.parse().unwrap()).collect();
-        (numbers[0], numbers[1])
-    });
-    let places: Vec<(usize, usize)> = places.collect();
-    assert_eq!(places.len() as u64, count, "{}", list.text());
-    let take = fs::read(folder.join("take.h264")).unwrap();
-    (folder, take, places)
-}
+use helpers::{
+    command, fails, ffmpeg, folder, has_ffmpeg, names, recorded, run, run_with, Ran, KINDS,
+};
 
 #[test]
 fn good_files() {
@@ -241,9 +68,11 @@ fn pipes() {
 #[test]
 fn broken_pipes() {
     let (folder, ..) = recorded("broken-pipes", &KINDS[2], 3000);
-    for arguments in
-        [&["list", "take.h264"][..], &["extract", "take.h264", "-"], &["record", "in.y4m", "-"]]
-    {
+    for arguments in [
+        &["list", "take.h264"][..],
+        &["extract", "take.h264", "-"],
+        &["record", "in.y4m", "-", "--quiet"],
+    ] {
         let mut command = command(&folder, arguments);
         let mut child = command.stdout(Stdio::piped()).stderr(Stdio::piped()).spawn().unwrap();
         let mut few = [0; 10];
@@ -323,7 +152,7 @@ fn damaged_files() {
             ("a front", with(0, 0, b"text"), &pictures),
         ] {
             fs::write(folder.join("bad.h264"), damaged).unwrap();
-            let ran = run(&folder, &["extract", "bad.h264", "out.y4m"]);
+            let ran = run(&folder, &["extract", "bad.h264", "out.y4m", "--force"]);
             assert_eq!(ran.status, 3, "{name}: {}", ran.said);
             assert!(ran.said.starts_with("reelpony: lost: "), "{name}: {}", ran.said);
             let found = fs::read(folder.join("out.y4m")).unwrap();
@@ -409,11 +238,14 @@ fn bad_y4m() {
     let folder = folder("bad-y4m");
     fs::write(folder.join("out.h264"), "was here").unwrap();
     let picture = [1; 6];
-    let with = |header: &str, rest: &[u8]| [header.as_bytes(), b"\nFRAME\n", rest].concat();
+    let with = |header: &str, rest: &[u8]| {
+        [header.as_bytes(), b" XCOLORRANGE=FULL\nFRAME\n", rest].concat()
+    };
     for (part, bytes) in [
-        ("in.y4m is not a Y4M file", vec![]),
-        ("in.y4m is not a Y4M file", b"RIFF....".to_vec()),
-        ("in.y4m is not a Y4M file", vec![b'Y'; 1 << 20]),
+        ("in.y4m is empty, not a Y4M", vec![]),
+        ("in.y4m is a RIFF file, not a Y4M", b"RIFF....".to_vec()),
+        ("in.y4m is not a Y4M: it doesn't begin with a line YUV4MPEG2", vec![b'Y'; 1 << 20]),
+        ("in.y4m is not a Y4M: it doesn't begin with a line YUV4MPEG2", b"YUV4MPEG22 W2\n".into()),
         ("first line has no width and height", with("YUV4MPEG2 H2", &picture)),
         ("first line has no width and height", with("YUV4MPEG2 W-2 H2", &picture)),
         ("first line has no width and height", with("YUV4MPEG2 W99999999999 H2", &picture)),
@@ -425,26 +257,21 @@ fn bad_y4m() {
         ("can have an odd width, and this is 1x2", with("YUV4MPEG2 W1 H2 Cmono12", &picture)),
         ("needs an even height, and this is 2x3", with("YUV4MPEG2 W2 H3", &picture)),
         ("multiple of 4, and this is 6x2", with("YUV4MPEG2 W6 H2 C420p12", &picture)),
-        ("in.y4m has no picture", b"YUV4MPEG2 W2 H2\n".to_vec()),
-        ("in.y4m has no picture", b"YUV4MPEG2 W2 H2".to_vec()),
+        ("in.y4m has no picture", b"YUV4MPEG2 W2 H2 XCOLORRANGE=FULL\n".to_vec()),
+        ("in.y4m has no picture", b"YUV4MPEG2 W2 H2 XCOLORRANGE=FULL".to_vec()),
         ("picture 1 is not whole", with("YUV4MPEG2 W2 H2", &picture[1..])),
         ("picture 1 is not whole", with("YUV4MPEG2 W16384 H16384", &picture)),
-        ("picture 2 is not whole", with("YUV4MPEG2 W2 H2", b"123456FRAME\n")),
-        ("no FRAME stands before picture 2", with("YUV4MPEG2 W2 H2", &[1; 9])),
         ("picture 1 has 4096 in Y at column 1, row 0;", {
             with("YUV4MPEG2 W2 H1 Cmono12", &[255, 15, 0, 16])
         }),
     ] {
         fs::write(folder.join("in.y4m"), &bytes).unwrap();
-        fails(&folder, &["record", "in.y4m", "out.h264"], 1, part);
+        fails(&folder, &["record", "in.y4m", "new.h264", "--quiet"], 1, part);
+        let force = run(&folder, &["record", "in.y4m", "out.h264", "--force"]);
+        assert!(force.status == 1 && force.said.contains(part), "{}", force.said);
         assert_eq!(fs::read(folder.join("out.h264")).unwrap(), b"was here");
         assert_eq!(names(&folder), ["in.y4m", "out.h264"]);
     }
-    // What a take can't say is noted, and the samples are kept.
-    fs::write(folder.join("in.y4m"), with("YUV4MPEG2 W2 H2 It XCOLORRANGE=LIMITED", &picture))
-        .unwrap();
-    let ran = run(&folder, &["record", "in.y4m", "out.h264"]);
-    assert_eq!((ran.status, ran.said.matches("note: in.y4m: ").count()), (0, 2), "{}", ran.said);
 }
 
 #[test]
@@ -462,11 +289,16 @@ fn names_that_lead_nowhere() {
     fails(&folder, &["record", "in.y4m", "none/out"], 1, "its folder isn't there");
     fails(&folder, &["extract", "take.h264", "none/out"], 1, "its folder isn't there");
     fails(&folder, &["extract", "take.h264", "."], 1, "it is a folder");
-    fails(&folder, &["extract", "take.h264", "take.h264"], 1, "the input and the output at once");
+    fails(&folder, &["extract", "take.h264", "take.h264"], 1, "an input and the output at once");
     assert_eq!(fs::read(folder.join("take.h264")).unwrap(), take);
     fails(&folder, &["demo", "take.h264"], 1, "the folder take.h264 can't be made");
     if Path::new("/dev/full").exists() {
-        fails(&folder, &["record", "in.y4m", "/dev/full"], 1, "/dev/full can't be written: ");
+        fails(
+            &folder,
+            &["record", "in.y4m", "/dev/full", "--quiet"],
+            1,
+            "/dev/full can't be written: ",
+        );
     }
     assert_eq!(names(&folder), ["in.y4m", "take.h264"]);
 }
@@ -516,22 +348,6 @@ fn demo() {
     }
 }
 
-/// Whether ffmpeg can be started. host/run-tests says where it can't.
-fn has_ffmpeg() -> bool {
-    let mut probe = Command::new("ffmpeg");
-    probe.arg("-version").stdout(Stdio::null()).stderr(Stdio::null());
-    probe.status().is_ok_and(|status| status.success())
-}
-
-/// What ffmpeg writes to standard output. It must not complain.
-fn ffmpeg(folder: &Path, arguments: &[&str]) -> Vec<u8> {
-    let mut command = Command::new("ffmpeg");
-    command.args(["-nostdin", "-v", "error"]).args(arguments).current_dir(folder);
-    let ran = Ran::of(command.output().unwrap());
-    assert_eq!((ran.status, &ran.said[..]), (0, ""), "{arguments:?}");
-    ran.out
-}
-
 /// Y4M as ffmpeg makes it; the take as ffmpeg decodes it; the Y4M made here as ffmpeg reads it.
 #[test]
 fn beside_ffmpeg() {
@@ -555,6 +371,8 @@ fn beside_ffmpeg() {
         let make = ["-f", "lavfi", "-i", &source, "-frames:v", "6", "-pix_fmt", format];
         let made = ffmpeg(&folder, &[&make[..], &y4m, &["-"]].concat());
         fs::write(folder.join("in.y4m"), &made).unwrap();
+        let _ = fs::remove_file(folder.join("take.h264"));
+        let _ = fs::remove_file(folder.join("out.y4m"));
         assert_eq!(run(&folder, &["record", "in.y4m", "take.h264"]).status, 0, "{format}");
 
         // Full range has a name of its own with 8 bits; to another one it would be converted.
