@@ -59,6 +59,7 @@ impl Tally {
                 self.nothing_held += u64::from(refusal == Refusal::NothingHeld);
                 self.first.get_or_insert((found.clone(), refusal));
             }
+            _ => {} // a unit that only a later library tells of; `list` shows it
         }
     }
 
@@ -145,6 +146,7 @@ pub fn list(path: &Path, looking: &Looking) -> Result<Outcome> {
             What::Pps => "picture parameter set".into(),
             What::Picture => format!("picture {}", tally.pictures),
             What::Refused(refusal) => refused(refusal),
+            other => format!("{other:?}"),
         };
         text.line(format!("{:>14} {:>12}  {what}", found.offset, found.length))?;
         if !on_terminal {

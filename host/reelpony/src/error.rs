@@ -4,8 +4,9 @@ use std::{error, fmt, io};
 
 use crate::Refusal;
 
-/// Why [`LessEncoder`](crate::LessEncoder) wrote nothing, with the variants and texts of
-/// less-avc's. [`Error::refusal`] tells which [`Refusal`] it was.
+/// Why [`LessEncoder`](crate::LessEncoder) or [`H264Writer`](crate::H264Writer) didn't write a
+/// picture, with the variants and texts of less-avc's. [`Error::refusal`] tells which [`Refusal`] it
+/// was. As there, a match can name every variant.
 #[derive(Debug)]
 pub enum Error {
     /// The picture's sizes, depths or planes are none that can be written.
@@ -17,9 +18,11 @@ pub enum Error {
     UnsupportedFormat {},
     /// Colour with an odd height.
     UnsupportedImageSize {},
-    /// A refusal that no picture gives: another library was linked.
+    /// A picture for an [`H264Writer`](crate::H264Writer) whose sink failed before. Or a refusal that
+    /// no picture gives: another library was linked.
     InconsistentState {},
-    /// Never given here; it stands for callers that turn their own into it with `?`.
+    /// The sink of an [`H264Writer`](crate::H264Writer) failed. Callers turn their own into it with
+    /// `?`.
     IoError {
         /// What went wrong.
         source: io::Error,

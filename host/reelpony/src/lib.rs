@@ -4,32 +4,35 @@
 //! A safe layer over the proved library `libreelpony.a`. Nothing here panics, whatever it is given:
 //! what can't be done is a [`Refusal`], which has a number and a sentence.
 //!
-//! | | with memory that is lent | with memory of its own |
-//! |---|---|---|
-//! | writing | [`start`], [`next`] | [`LessEncoder`], as in less-avc |
-//! | reading | [`Reader`] | [`Pictures`] |
-//! | reading what is damaged | [`Reader`] | [`Salvage`] |
+//! | | with memory that is lent | with memory of its own | from and to files |
+//! |---|---|---|---|
+//! | writing | [`start`], [`next`] | [`LessEncoder`], as in less-avc | [`H264Writer`], likewise |
+//! | reading | [`Reader`] | [`Pictures`] | [`Window`] |
+//! | reading what is damaged | [`Reader`] | [`Salvage`] | [`Window::salvage`] |
 //!
 //! A take is what a start call wrote, then what each next call wrote, one behind the other in a
-//! file. The pictures that are written are lent as less-avc's types, see [`ycbcr_image`].
+//! file. The pictures that are written are lent as less-avc's types, see [`ycbcr_image`]. A file is
+//! any [`Write`](std::io::Write) or [`Read`](std::io::Read):
 //!
 //! ```
 //! use reelpony::ycbcr_image::{DataPlane, Planes, YCbCrImage};
-//! use reelpony::{BitDepth, LessEncoder, Salvage};
+//! use reelpony::{BitDepth, H264Writer, Window};
 //!
 //! let samples = vec![0x10; 640 * 480];
 //! let y = DataPlane { data: &samples, stride: 640, bit_depth: BitDepth::Depth8 };
 //! let image = YCbCrImage { planes: Planes::Mono(y), width: 640, height: 480 };
-//! let (first, mut encoder) = LessEncoder::new(&image)?; // parameter sets and first picture
-//! let mut take: Vec<u8> = first.into_iter().flat_map(|unit| unit.to_annex_b_data()).collect();
-//! take.extend(encoder.encode(&image)?.to_annex_b_data()); // one more picture
-//! for found in Salvage::new(&take) {
-//!     match found {
+//! let mut writer = H264Writer::new(Vec::new())?;
+//! writer.write(&image)?; // parameter sets and first picture
+//! writer.write(&image)?; // one more picture
+//! let take: Vec<u8> = writer.into_inner();
+//!
+//! for found in Window::new(&take[..]).salvage() {
+//!     match found? {
 //!         Ok(picture) => assert_eq!(picture.y, samples),
 //!         Err(lost) => eprintln!("{lost}"),
 //!     }
 //! }
-//! # assert_eq!(Salvage::new(&take).filter(Result::is_ok).count(), 2);
+//! # assert_eq!(Window::new(&take[..]).salvage().filter(|found| matches!(found, Ok(Ok(_)))).count(), 2);
 //! # Ok::<(), reelpony::Error>(())
 //! ```
 //!
@@ -60,6 +63,7 @@
 //!         Answer::Sps { sps, .. } => assert_eq!(sps.plane_lengths(), [256, 0, 0]),
 //!         Answer::Pps { .. } => {}
 //!         Answer::Refused { refusal, offset } => eprintln!("at {offset}: {refusal}"),
+//!         _ => {} // what a later version may tell
 //!     }
 //! }
 //! # Ok::<(), reelpony::Refusal>(())
@@ -77,6 +81,7 @@ mod pictures;
 pub mod reader;
 mod refusal;
 pub mod window;
+mod writer;
 pub mod ycbcr_image;
 
 pub use encoder::LessEncoder;
@@ -86,6 +91,7 @@ pub use pictures::{Lost, Picture, Pictures, Salvage};
 pub use reader::Reader;
 pub use refusal::Refusal;
 pub use window::Window;
+pub use writer::H264Writer;
 use ycbcr_image::{Planes, YCbCrImage};
 
 /// Bits a sample.

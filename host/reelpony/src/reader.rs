@@ -57,6 +57,7 @@ impl PlanesMut<'_> {
 
 /// What one call found. Each offset is where its bytes begin in the take, behind the start code.
 #[derive(Clone, Copy, Debug, PartialEq, Eq)]
+#[non_exhaustive]
 pub enum Answer {
     /// Nothing more.
     End,

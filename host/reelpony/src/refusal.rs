@@ -12,6 +12,7 @@ use std::fmt;
 /// assert_eq!(refusal.to_string(), "the picture is cut short");
 /// ```
 #[derive(Clone, Copy, Debug, PartialEq, Eq)]
+#[non_exhaustive]
 pub enum Refusal {
     /// 1: the width or the height is 0 or over 16,384.
     Size,

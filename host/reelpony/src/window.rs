@@ -15,7 +15,7 @@
 //!   after it are only searched for the next start code, and dropped.
 //! - A unit can be longer than any that is accepted, without a start code to the end of a large
 //!   file. Of such a unit the first bytes are kept, more than an accepted unit can have
-//!   ([`longest_unit`]), and the rest is looked through in pieces and dropped. If the rest is all
+//!   (`longest_unit`), and the rest is looked through in pieces and dropped. If the rest is all
 //!   zeros, the kept bytes are the unit. If not, refusal 12 is given exactly when one of its
 //!   patterns stands in the kept bytes or in a piece: each piece begins with the last three bytes
 //!   before it, a pattern has four at most, and three zeros count only with another byte behind
@@ -26,9 +26,11 @@
 //!   with the parameter sets that were met before them.
 
 use std::io::{self, Read};
+use std::iter::FusedIterator;
+use std::mem;
 
 use crate::reader::{Answer, PlanesMut, Reader, Sps};
-use crate::Refusal;
+use crate::{Lost, Picture, Refusal};
 
 /// How many bytes are asked for at a time.
 const CHUNK: usize = 1 << 18;
@@ -46,6 +48,7 @@ pub struct Found {
 
 /// What a [`Window`] answers about a place of a take.
 #[derive(Clone, Copy, Debug, PartialEq, Eq)]
+#[non_exhaustive]
 pub enum What {
     /// A sequence parameter set; from now on it is held.
     Sps(Sps),
@@ -94,7 +97,8 @@ impl<R: Read> Window<R> {
         }
     }
 
-    /// Goes on as if this sequence parameter set and the picture parameter set had been read here.
+    /// Goes on as if this sequence parameter set and the picture parameter set had been read here. A
+    /// size or kind that no take has counts as nothing held.
     pub fn hold(&mut self, sps: Sps) -> io::Result<()> {
         self.held = Reader::holding(sps);
         self.make_planes()
@@ -120,7 +124,43 @@ impl<R: Read> Window<R> {
         self.offset
     }
 
-    /// The next thing in the take. None at the end.
+    /// The pictures from here on, each with samples of its own, and what is lost between them.
+    ///
+    /// ```
+    /// # use reelpony::ycbcr_image::{DataPlane, Planes, YCbCrImage};
+    /// # use reelpony::{BitDepth, H264Writer};
+    /// # let samples = [0x10; 256];
+    /// # let y = DataPlane { data: &samples, stride: 16, bit_depth: BitDepth::Depth8 };
+    /// # let image = YCbCrImage { planes: Planes::Mono(y), width: 16, height: 16 };
+    /// # let path = std::env::temp_dir().join(format!("reelpony-doc-{}.h264", std::process::id()));
+    /// # let mut writer = H264Writer::new(std::fs::File::create(&path)?)?;
+    /// # (writer.write(&image)?, writer.write(&image)?);
+    /// # drop(writer);
+    /// use std::fs::File;
+    /// use reelpony::Window;
+    ///
+    /// # let mut saved = 0;
+    /// // A take of two pictures, 16x16, all samples 10 hex.
+    /// for found in Window::new(File::open(&path)?).salvage() {
+    ///     match found? {
+    ///         Ok(picture) => assert_eq!(picture.y, [0x10; 256]),
+    ///         Err(lost) => eprintln!("{lost}"),
+    ///     }
+    /// #   saved += 1;
+    /// }
+    /// # std::fs::remove_file(&path)?;
+    /// # assert_eq!(saved, 2);
+    /// # Ok::<(), Box<dyn std::error::Error>>(())
+    /// ```
+    pub fn salvage(self) -> SalvageFrom<R> {
+        SalvageFrom { window: Window { keeps_samples: true, ..self }, ended: false }
+    }
+
+    /// The next thing in the take. None at the end, and none again from then on. Behind an error, which
+    /// is the source's or memory that can't be had, nothing more should be asked: bytes that were
+    /// read may be lost then.
+    // No iterator's: what it finds in the planes is lent until the next call.
+    #[allow(clippy::should_implement_trait)]
     pub fn next(&mut self) -> io::Result<Option<Found>> {
         let place = self.offset;
         loop {
@@ -285,10 +325,60 @@ impl<R: Read> Window<R> {
     }
 }
 
+/// What [`Salvage`](crate::Salvage) is for a slice, from any [`Read`]: each item is a picture, or what
+/// was lost, or else the error that [`Window::next`] gave, behind which nothing comes. An offset or
+/// length that no `usize` holds is the largest one.
+pub struct SalvageFrom<R> {
+    window: Window<R>,
+    ended: bool,
+}
+
+impl<R: Read> SalvageFrom<R> {
+    /// Goes on to the next picture or loss. None at the end.
+    fn find(&mut self) -> io::Result<Option<Result<Picture, Lost>>> {
+        loop {
+            // The last picture took them along.
+            self.window.make_planes()?;
+            let Some(Found { offset, length, what }) = self.window.next()? else {
+                return Ok(None);
+            };
+            let [offset, length] =
+                [offset, length].map(|number| usize::try_from(number).unwrap_or(usize::MAX));
+            match (what, self.window.sps()) {
+                (What::Picture, Some(sps)) => {
+                    let [y, cb, cr] = mem::take(&mut self.window.planes);
+                    return Ok(Some(Ok(Picture { sps, y, cb, cr, offset, length })));
+                }
+                (What::Refused(refusal), _) => {
+                    return Ok(Some(Err(Lost { refusal, offset, length })));
+                }
+                _ => {}
+            }
+        }
+    }
+}
+
+impl<R: Read> Iterator for SalvageFrom<R> {
+    type Item = io::Result<Result<Picture, Lost>>;
+
+    fn next(&mut self) -> Option<io::Result<Result<Picture, Lost>>> {
+        if self.ended {
+            return None;
+        }
+        let found = self.find();
+        self.ended = !matches!(found, Ok(Some(_)));
+        found.transpose()
+    }
+}
+
+impl<R: Read> FusedIterator for SalvageFrom<R> {}
+
 /// More bytes than a unit can have that is accepted while this parameter set is held: a picture,
-/// half of it again for escaping, and some to spare. A parameter set has fewer than 64.
+/// half of it again for escaping, and some to spare. A parameter set has fewer than 64. A size or
+/// kind that no take has counts as nothing held, and its planes have no bytes.
 fn longest_unit(sps: Option<Sps>) -> usize {
-    sps.map_or(0, |sps| longest_picture(&sps)) + 256
+    let possible = sps.filter(|sps| sps.plane_lengths() != [0; 3]);
+    possible.map_or(0, |sps| longest_picture(&sps)) + 256
 }
 
 /// As many bytes as a picture can have with its start code and what escaping inserts, one byte for
@@ -297,7 +387,7 @@ pub fn longest_picture(sps: &Sps) -> usize {
     let [across, down] = [sps.width, sps.height].map(|side| side.div_ceil(16) as usize);
     let samples = if sps.colour { 384 } else { 256 };
     let macroblock = samples * usize::from(sps.bit_depth.num_bits()) / 8 + 2;
-    (across * down * macroblock + 16) / 2 * 3
+    across.saturating_mul(down).saturating_mul(macroblock).saturating_add(16).saturating_mul(3) / 2
 }
 
 /// Bytes that are looked at together, with no branch for each: the compiler takes vectors then.
@@ -360,6 +450,7 @@ mod tests {
     use super::*;
     use crate::ycbcr_image::{DataPlane, Planes, YCbCrImage};
     use crate::BitDepth::{Depth12, Depth8};
+    use crate::Salvage;
     use common::Noise;
 
     /// What is found, and a picture's samples.
@@ -521,6 +612,12 @@ mod tests {
                 windowed(source, 1 + chunk, false).into_iter().map(|(found, _)| found).collect();
             let all: Vec<Found> = reading.into_iter().map(|(found, _)| found).collect();
             assert_eq!(looked, all, "case {case}, chunk {}", 1 + chunk);
+            if case % 3 == 0 {
+                let source = Stutter { rest: &file, noise: Noise::new(9, case) };
+                let salvage = Window { chunk, ..Window::new(source) }.salvage();
+                let saved: Vec<_> = salvage.map(|found| found.unwrap()).collect();
+                assert!(saved.into_iter().eq(Salvage::new(&file)), "case {case}, chunk {chunk}");
+            }
         }
         assert!(met[10..=18].iter().all(|&times| times > 20), "refusals met: {met:?}");
         assert!(pictures > 1000 && long > 100, "{pictures} pictures, {long} long units");
@@ -570,6 +667,27 @@ mod tests {
         assert_eq!(found, Some(Found { offset: 0, length: LONG, what: stray }));
         assert!(window.bytes.capacity() < 4 * CHUNK);
         assert!(matches!(window.next(), Ok(Some(Found { what: What::Sps(_), .. }))));
+    }
+
+    /// A size that no take has makes no unit a long one, and no number too large.
+    #[test]
+    fn lengths_of_no_take() {
+        let sides = [0, 1, 2, 16, 17, 16_384, 16_385, 1 << 31, u32::MAX];
+        let sizes = sides.into_iter().flat_map(|width| sides.map(|height| (width, height)));
+        for (width, height) in sizes {
+            for (colour, bit_depth) in [(false, Depth8), (true, Depth12)] {
+                let sps = Sps { width, height, colour, bit_depth };
+                let possible = [width, height].iter().all(|side| (1..=16_384).contains(side))
+                    && (!colour || width % 4 == 0 && height % 2 == 0);
+                let longest = longest_unit(Some(sps));
+                let visible: usize = sps.plane_lengths().iter().sum();
+                assert_eq!(longest > 256, possible, "{sps:?}");
+                assert_eq!(visible > 0, possible, "{sps:?}");
+                assert!(longest > visible && longest < 1 << 30, "{sps:?}");
+                assert!(longest_picture(&sps) >= longest - 256, "{sps:?}");
+            }
+        }
+        assert_eq!(longest_unit(None), 256);
     }
 
     #[test]

@@ -7,7 +7,8 @@ use reelpony::{next, start, BitDepth, Salvage};
 /// A take of two pictures of one macroblock each, the smallest that this can happen to.
 fn take_of_two(first: u8, second: u8) -> (Vec<u8>, usize) {
     let planes = [[first; 256], [second; 256]];
-    let images = planes.each_ref().map(|data| YCbCrImage {
+    let [first, second] = &planes;
+    let images = [first, second].map(|data| YCbCrImage {
         planes: Planes::Mono(DataPlane { data, stride: 16, bit_depth: BitDepth::Depth8 }),
         width: 16,
         height: 16,

@@ -4,7 +4,7 @@
 use reelpony::reader::{Answer, PlanesMut, Reader, Sps};
 use reelpony::ycbcr_image::{DataPlane, Planes, YCbCrImage};
 use reelpony::BitDepth::{self, Depth12, Depth8};
-use reelpony::{golomb, nal_unit, next, start, Refusal};
+use reelpony::{golomb, nal_unit, next, start, Refusal, Salvage};
 
 /// Monochrome 8, 16x16, all samples 10 hex.
 fn take_of_286() -> Vec<u8> {
@@ -85,10 +85,9 @@ fn every_kind_comes_back() {
         let sps = Sps { width, height, colour, bit_depth };
         let padded = [(width, height, 16), (width / 2, height / 2, 8), (width / 2, height / 2, 8)]
             .map(|(across, down, side)| plane(across, down, side, bit_depth));
-        let [y, cb, cr] = padded.each_ref().map(|(data, _, stride)| DataPlane {
-            data,
-            stride: *stride,
-            bit_depth,
+        let [y, cb, cr] = [0, 1, 2].map(|i| {
+            let (data, _, stride) = &padded[i];
+            DataPlane { data, stride: *stride, bit_depth }
         });
         let planes = if colour { Planes::YCbCr((y, cb, cr)) } else { Planes::Mono(y) };
         let image = YCbCrImage { planes, width, height };
@@ -113,6 +112,89 @@ fn every_kind_comes_back() {
             }
         }
         assert_eq!(reader.read(take, PlanesMut::none()), Answer::End);
+    }
+}
+
+/// A take whose parameter sets are lost is read with those of another one, from its first byte and
+/// from any place.
+#[test]
+fn a_take_without_its_sets() {
+    let take = take_of_286();
+    let pictures = [&take[20..], &take[20..]].concat();
+    let mut y = [0; 256];
+    let mut lent = |reader: &mut Reader, take: &[u8]| {
+        y.fill(0);
+        let answer = reader.read(take, PlanesMut { y: &mut y, cb: &mut [], cr: &mut [] });
+        (answer, y == [0x10; 256])
+    };
+    let nothing_held = Answer::Refused { refusal: Refusal::NothingHeld, offset: 4 };
+    assert_eq!(lent(&mut Reader::new(), &pictures), (nothing_held, false));
+
+    let mut reader = Reader::holding(SPS_16);
+    assert_eq!((reader.place(), reader.sps(), reader.has_pps()), (0, Some(SPS_16), true));
+    assert_eq!(lent(&mut reader, &pictures), (Answer::Picture { offset: 4 }, true));
+    assert_eq!(lent(&mut reader, &pictures), (Answer::Picture { offset: 270 }, true));
+    assert_eq!(lent(&mut reader, &pictures), (Answer::End, false));
+    // It is what reading the sets leaves.
+    let (_, read) = read(&take);
+    assert_eq!(Reader::holding(SPS_16).at(286), read);
+    assert_eq!(Reader::new().at(7).at(0), Reader::new());
+
+    // The sets are the take's own, or they are refused and so are its pictures.
+    let mut reader = Reader::holding(SPS_16);
+    let sps = Answer::Sps { offset: 4, sps: SPS_16 };
+    assert_eq!(lent(&mut reader, &take), (sps, false));
+    let mut reader = Reader::holding(Sps { width: 15, ..SPS_16 });
+    let other = Answer::Refused { refusal: Refusal::OtherThanHeld, offset: 4 };
+    assert_eq!(lent(&mut reader, &take), (other, false));
+    assert_eq!(lent(&mut reader, &take), (Answer::Pps { offset: 16 }, false));
+
+    // From another place: the second picture, the middle of the first one, the end and behind it.
+    let held = Reader::holding(SPS_16);
+    for (place, answer) in [
+        (266, Answer::Picture { offset: 270 }),
+        (267, Answer::Picture { offset: 270 }),
+        (268, Answer::Refused { refusal: Refusal::Stray, offset: 268 }),
+        (9, Answer::Refused { refusal: Refusal::Stray, offset: 9 }),
+        (532, Answer::End),
+        (533, Answer::End),
+        (usize::MAX, Answer::End),
+    ] {
+        let mut reader = held.at(place);
+        assert_eq!((reader.place(), reader.sps()), (place, Some(SPS_16)));
+        let read = matches!(answer, Answer::Picture { .. });
+        assert_eq!(lent(&mut reader, &pictures), (answer, read), "at {place}");
+    }
+    let nothing_held = Answer::Refused { refusal: Refusal::NothingHeld, offset: 270 };
+    assert_eq!(lent(&mut Reader::new().at(266), &pictures), (nothing_held, false));
+}
+
+/// Sizes and kinds that no take has.
+const NO_TAKES: [Sps; 8] = [
+    Sps { width: 0, ..SPS_16 },
+    Sps { height: 0, ..SPS_16 },
+    Sps { width: 16_385, ..SPS_16 },
+    Sps { height: 16_385, ..SPS_16 },
+    Sps { width: u32::MAX, height: u32::MAX, colour: true, bit_depth: Depth12 },
+    Sps { width: 15, bit_depth: Depth12, ..SPS_16 },
+    Sps { height: 15, colour: true, ..SPS_16 },
+    Sps { width: 14, colour: true, bit_depth: Depth12, ..SPS_16 },
+];
+
+/// A reader that holds what no take has holds nothing: a picture is refused with that, and the
+/// take's own sets are taken.
+#[test]
+fn a_size_that_no_take_has() {
+    let take = take_of_286();
+    let pictures = &take[20..];
+    for sps in NO_TAKES {
+        assert_eq!(sps.plane_lengths(), [0; 3], "{sps:?}");
+        let mut reader = Reader::holding(sps);
+        let nothing_held = Answer::Refused { refusal: Refusal::NothingHeld, offset: 4 };
+        assert_eq!(reader.read(pictures, PlanesMut::none()), nothing_held, "{sps:?}");
+        let found: Vec<_> = Salvage::from_reader(Reader::holding(sps), &take).collect();
+        assert!(found.iter().eq(&Salvage::new(&take).collect::<Vec<_>>()), "{sps:?}");
+        assert!(matches!(&found[..], [Ok(picture)] if picture.sps == SPS_16), "{found:?}");
     }
 }
 

@@ -24,10 +24,9 @@ impl Shoot {
             let chroma = (width / 2, height / 2, 8);
             let padded = [(width, height, 16), chroma, chroma]
                 .map(|(across, down, side)| plane(noise, across, down, side, bit_depth));
-            let [y, cb, cr] = padded.each_ref().map(|(data, _, stride)| DataPlane {
-                data,
-                stride: *stride,
-                bit_depth,
+            let [y, cb, cr] = [0, 1, 2].map(|i| {
+                let (data, _, stride) = &padded[i];
+                DataPlane { data, stride: *stride, bit_depth }
             });
             let planes = if colour { Planes::YCbCr((y, cb, cr)) } else { Planes::Mono(y) };
             let image = YCbCrImage { planes, width, height };

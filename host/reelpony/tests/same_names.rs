@@ -31,8 +31,10 @@ fn image<'a>(
     width: u32,
     height: u32,
 ) -> YCbCrImage<'a> {
-    let [y, cb, cr] =
-        planes.each_ref().map(|(data, stride)| DataPlane { data, stride: *stride, bit_depth });
+    let [y, cb, cr] = [0, 1, 2].map(|i| {
+        let (data, stride) = &planes[i];
+        DataPlane { data, stride: *stride, bit_depth }
+    });
     let planes = if colour { Planes::YCbCr((y, cb, cr)) } else { Planes::Mono(y) };
     YCbCrImage { planes, width, height }
 }
@@ -76,7 +78,7 @@ fn units_are_the_lent_calls_bytes() {
 fn units_that_are_kept() {
     let contents: [fn(usize) -> u8; 4] = [|_| 0, |_| 1, |i| i as u8, |_| 0xFF];
     let pictures = contents.map(|content| planes(20, 20, Depth8, content));
-    let images = pictures.each_ref().map(|planes| image(planes, true, Depth8, 20, 20));
+    let images = [0, 1, 2, 3].map(|i| image(&pictures[i], true, Depth8, 20, 20));
     let (first, mut encoder) = LessEncoder::new(&images[0]).unwrap();
     let kept: Vec<NalUnit> = images.iter().map(|image| encoder.encode(image).unwrap()).collect();
     let narrow = YCbCrImage { width: 18, ..images[1] };

@@ -6,15 +6,18 @@
 //! Only what both define is asked for: less-avc panics at size 0, for instance, where reelpony
 //! refuses.
 
+use std::cell::RefCell;
 use std::error::Error as _;
 use std::fmt::Write as _;
+use std::io::{self, BufWriter, Write as _};
 use std::path::Path;
 use std::process::ExitCode;
+use std::rc::Rc;
 use std::{env, fs};
 
 use codec::nal_unit::{InitialNalUnits, NalRefIdc, NalUnit, NalUnitType};
 use codec::ycbcr_image::{DataPlane, Planes, YCbCrImage};
-use codec::{BitDepth, Error, LessEncoder, RbspData};
+use codec::{BitDepth, Error, H264Writer, LessEncoder, RbspData};
 
 /// What the samples are like.
 #[derive(Clone, Copy, Debug)]
@@ -130,6 +133,12 @@ fn takes(folder: &Path) -> Result<(), Error> {
             let name = format!("{colour}-{bit_depth:?}-{width}x{height}-{content:?}");
             fs::write(folder.join(format!("{name}.h264")), bytes)?;
             fs::write(folder.join(format!("{name}.units")), units)?;
+            let file = fs::File::create(folder.join(format!("{name}.written")))?;
+            let mut writer = H264Writer::new(BufWriter::new(file))?;
+            for picture in &pictures {
+                writer.write(&picture.image())?;
+            }
+            writer.into_inner().flush()?;
         }
     }
     Ok(())
@@ -183,10 +192,59 @@ fn refusals() -> Result<String, Error> {
             }
         }
     }
-    text += &told(Error::from(std::io::Error::other("a caller's own")));
+    text += &told(Error::from(io::Error::other("a caller's own")));
     text.push('\n');
     text += &told(Error::UnsupportedFormat {});
     text.push('\n');
+    Ok(text)
+}
+
+/// A sink that takes so many bytes and then fails; they are seen from outside, since less-avc's
+/// writer doesn't give back a sink that failed.
+struct Full {
+    left: usize,
+    taken: Rc<RefCell<Vec<u8>>>,
+}
+
+impl io::Write for Full {
+    fn write(&mut self, bytes: &[u8]) -> io::Result<usize> {
+        let length = bytes.len().min(self.left);
+        if length == 0 {
+            return Err(io::Error::other("full"));
+        }
+        self.left -= length;
+        self.taken.borrow_mut().extend(&bytes[..length]);
+        Ok(length)
+    }
+
+    fn flush(&mut self) -> io::Result<()> {
+        Ok(())
+    }
+}
+
+/// What the writer says of a first picture that is refused, and of sinks that fail: at the picture
+/// for which there was no room, and at one behind it. A picture behind a refused one is not asked
+/// for: less-avc's writer is of no more use then, ours goes on.
+fn writer_errors() -> Result<String, Error> {
+    let mut text = String::new();
+    for shape in [(true, BitDepth::Depth12, 6, 4, 0), (true, BitDepth::Depth8, 16, 17, 0)] {
+        let mut writer = H264Writer::new(Vec::new())?;
+        let answer = writer.write(&Picture::new(shape, Content::Ramp, 0).image());
+        writeln!(text, "a first one: {}", answer.map_or_else(told, |()| "written".into()))
+            .expect("a string takes all");
+    }
+    let shape = (false, BitDepth::Depth8, 16, 16, 0);
+    let pictures = [0, 1, 2].map(|turn| Picture::new(shape, Content::Ramp, turn));
+    for left in (0..900).step_by(7) {
+        let taken = Rc::default();
+        let mut writer = H264Writer::new(Full { left, taken: Rc::clone(&taken) })?;
+        for picture in &pictures {
+            let answer = writer.write(&picture.image()).map_or_else(told, |()| "written".into());
+            let taken = taken.borrow();
+            writeln!(text, "room for {left}: {answer}; {} bytes, {taken:02x?}", taken.len())
+                .expect("a string takes all");
+        }
+    }
     Ok(text)
 }
 
@@ -246,6 +304,7 @@ fn main() -> ExitCode {
     let folder = Path::new(&folder);
     let written = takes(folder).and_then(|()| {
         fs::write(folder.join("refusals.txt"), refusals()?)?;
+        fs::write(folder.join("writer-errors.txt"), writer_errors()?)?;
         fs::write(folder.join("own-units.h264"), own_units())?;
         Ok(())
     });

@@ -58,6 +58,7 @@ fn read(picture: &Picture, pictures: usize, take: &[u8], y: &mut [u8]) -> Result
             Answer::Picture { .. } => met += 1,
             Answer::Refused { refusal, .. } => return Err(refusal.to_string()),
             Answer::Sps { .. } | Answer::Pps { .. } => {}
+            other => return Err(format!("an answer that is not known here: {other:?}")),
         }
     }
     let took = begun.elapsed();
