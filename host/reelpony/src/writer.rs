@@ -33,12 +33,13 @@ use crate::{next, room, start, Error, Session};
 /// - A picture that is refused ([`Error::refusal`] tells why) gives the sink nothing, and the writer
 ///   goes on as if it had not been given; as the first one it begins no take.
 /// - An error of the sink is [`Error::IoError`], the only case of that error. The sink may have taken
-///   a part of the picture, and one written behind a part would be lost with it. So the writer ends:
-///   it gives the sink no more bytes, and every further picture is answered with
-///   [`Error::InconsistentState`]. What the sink took is [`written`](H264Writer::written) bytes of
-///   whole pictures, and perhaps a part of one more. [`into_inner`](H264Writer::into_inner) gives it
-///   back: a file that is cut to that length is a whole take; left as it is, it reads as a cut one,
-///   from which all whole pictures are saved. The same holds where the sink panics.
+///   a part of the picture, and with another one behind the part a take that was cut would be one
+///   that is damaged in its middle, unseen. So the writer ends: it gives the sink no more bytes, and
+///   every further picture is answered with [`Error::InconsistentState`]. What the sink took is
+///   [`written`](H264Writer::written) bytes of whole pictures, and perhaps a part of one more.
+///   [`into_inner`](H264Writer::into_inner) gives it back: a file that is cut behind those bytes is a
+///   whole take; left as it is, it reads as a cut one, from which all whole pictures are saved. The
+///   same holds where the sink panics.
 ///
 /// The sink gets each picture in one [`Write::write_all`] and is never flushed: whoever lends a
 /// `BufWriter` flushes it behind [`into_inner`](H264Writer::into_inner), and what it holds back counts

@@ -224,7 +224,7 @@ fn a_sink_that_fails_anywhere() {
             let salvage: Vec<_> = Salvage::new(&bytes).collect();
             assert!(salvage.iter().flatten().eq(&found), "at {room}");
             assert!(salvage.len() <= whole + 1, "at {room}");
-            // The sink itself goes on, with a take of its own.
+            // A host that knows of the part can go on with a take of its own behind it.
             sink.left = usize::MAX;
             let mut again = H264Writer::new(sink).unwrap();
             again.write(&shots[2].image()).unwrap();
