@@ -13,7 +13,7 @@ use crate::error::{Error, Outcome, Result};
 use crate::files::{Input, Name, Output, Replace, Text, Way};
 use crate::progress::Progress;
 use crate::record::{record, Broken};
-use crate::salvage::{save, RATE};
+use crate::salvage::{save_all, RATE};
 use crate::scene::picture;
 use crate::sheet::{sheet, Row};
 use crate::y4m::{self, Source};
@@ -229,17 +229,8 @@ fn places(take: &Path) -> Result<Vec<(usize, usize)>> {
 fn salvage(folder: &Path, name: &str, bytes: &[u8], shape: &Sps) -> Result<Saved> {
     let take = folder.join(name).with_extension("h264");
     create(&take, bytes)?;
-    let input = Input::open(&take)?;
-    let mut window = Window::with_samples(input.file);
     let raw = folder.join(name).with_extension("y4m");
-    let mut output = begin(&raw)?;
-    let mut lost = Vec::new();
-    save(&mut window, &input.name, &mut output, RATE, &mut |found, _, _| {
-        if let What::Refused(refusal) = found.what {
-            lost.push(refusal);
-        }
-    })?;
-    output.finish()?;
+    let lost = save_all(&take, &raw)?;
 
     let saved = fs::read(&raw).map_err(|error| Error::reading(Name::of(&raw, ""), error))?;
     let bytes_each = if shape.bit_depth == Depth12 { 2 } else { 1 };

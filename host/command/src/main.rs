@@ -7,17 +7,23 @@ mod capture;
 mod demo;
 mod error;
 mod files;
+mod fit;
 mod help;
+mod json;
 mod kinds;
+mod look;
 mod names;
 mod png;
 mod progress;
 mod record;
 mod salvage;
 mod scene;
+mod sets;
 mod sheet;
 #[allow(unsafe_code)]
 mod signals;
+mod tally;
+mod tap;
 mod y4m;
 
 use std::env;

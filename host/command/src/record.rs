@@ -8,7 +8,7 @@ use crate::files::{Input, Output, Replace, Target, Way};
 use crate::progress::{counted, Progress};
 use crate::signals::Signals;
 use crate::y4m::{self, Feed, Source};
-use reelpony::window::{longest_picture, zeros};
+use reelpony::window::zeros;
 
 /// How a take is recorded.
 #[derive(Default)]
@@ -124,9 +124,7 @@ pub fn record<R: Feed>(
     progress: &mut Progress,
 ) -> Recorded {
     let mut recorded = Recorded { pictures: 0, bytes: 0, broken: None };
-    // A picture with room for the worst escaping, and the parameter sets.
-    let room = longest_picture(&source.header.shape) + 256;
-    let mut out = match zeros(room) {
+    let mut out = match zeros(source.header.shape.room()) {
         Ok(out) => out,
         Err(error) => {
             recorded.broken = Some(Broken::Other(Error::writing(&output.name, error)));

@@ -437,9 +437,15 @@ pub fn header(shape: &Sps, rate: &str) -> String {
     format!("YUV4MPEG2 W{width} H{height} F{rate} Ip A0:0 C{kind} XCOLORRANGE=FULL\n")
 }
 
-/// Writes a picture from planes as a take's reader leaves them.
-pub fn write(output: &mut Output, depth: BitDepth, planes: &[Vec<u8>; 3]) -> Result<()> {
-    output.write(b"FRAME\n")?;
+/// Writes a picture from planes as a take's reader leaves them. One that a second look found says so
+/// in its frame's line, which players pass over.
+pub fn write(
+    output: &mut Output,
+    depth: BitDepth,
+    marked: bool,
+    planes: &[Vec<u8>; 3],
+) -> Result<()> {
+    output.write(if marked { b"FRAME XREELPONY=SECOND-LOOK\n" } else { b"FRAME\n" })?;
     let mut row = Vec::new();
     for plane in planes {
         match depth {

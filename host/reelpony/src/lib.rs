@@ -89,6 +89,7 @@ pub use error::Error;
 pub use nal_unit::RbspData;
 pub use pictures::{Lost, Picture, Pictures, Salvage};
 pub use reader::Reader;
+use reader::Sps;
 pub use refusal::Refusal;
 pub use window::Window;
 pub use writer::H264Writer;
@@ -136,24 +137,19 @@ pub fn next(session: &mut Session, image: &YCbCrImage, out: &mut [u8]) -> Result
 ///
 /// 0 for a picture that is refused anyhow, since its planes have fewer bytes than it takes.
 pub fn room(image: &YCbCrImage) -> usize {
-    let [across, down] =
-        [image.width, image.height].map(|side| side.min(16_384).div_ceil(16) as usize);
-    let (lent, samples, depth) = match image.planes {
-        Planes::Mono(y) => (y.data.len(), 256, y.bit_depth),
+    let YCbCrImage { planes, width, height } = *image;
+    let (colour, bit_depth, lent) = match planes {
+        Planes::Mono(y) => (false, y.bit_depth, [y.data.len(), 0, 0]),
         Planes::YCbCr((y, cb, cr)) => {
-            let lent = [y, cb, cr].map(|plane| plane.data.len());
-            (lent.into_iter().fold(0, usize::saturating_add), 384, y.bit_depth)
+            (true, y.bit_depth, [y, cb, cr].map(|plane| plane.data.len()))
         }
     };
-    let macroblocks = across * down;
-    let bytes = macroblocks * samples * usize::from(depth.num_bits()) / 8;
-    if lent < bytes {
+    let sps = Sps { width, height, colour, bit_depth };
+    let short = lent.iter().zip(sps.plane_lengths()).any(|(lent, visible)| *lent < visible);
+    if short {
         return 0;
     }
-    // A header of four bytes, two before every macroblock but the first, and the last byte;
-    // escaping adds half as much at most. 69 are the parameter sets and the start code, at most.
-    let payload = 4 + bytes + 2 * macroblocks.saturating_sub(1) + 1;
-    payload + payload / 2 + 69
+    sps.room()
 }
 
 /// The length of an accepted call, which is at most that of its output.

@@ -35,6 +35,14 @@ impl Sps {
         let Reader(held) = Reader::holding(*self);
         [0, 1, 2].map(|plane| ffi::plane_len(&held, plane) as usize)
     }
+
+    /// A length of the output with which no call that writes such a picture is refused for want of
+    /// room, whatever the samples are, and nothing has to be counted first. 0 for a size or kind that
+    /// no take has.
+    pub fn room(&self) -> usize {
+        let Sps { width, height, colour, bit_depth } = *self;
+        ffi::room(width, height, colour.into(), bit_depth.num_bits().into()) as usize
+    }
 }
 
 /// The planes that a picture is read into, from their first bytes on: visible rows alone, without

@@ -104,6 +104,21 @@ impl<R: Read> Window<R> {
         self.make_planes()
     }
 
+    /// Goes on as if no parameter set had been read.
+    pub fn forget(&mut self) {
+        self.held = Reader::new();
+    }
+
+    /// What the bytes come from.
+    pub fn source(&self) -> &R {
+        &self.source
+    }
+
+    /// The same, to be changed.
+    pub fn source_mut(&mut self) -> &mut R {
+        &mut self.source
+    }
+
     /// The sequence parameter set that is held.
     pub fn sps(&self) -> Option<Sps> {
         self.held.sps()
@@ -373,21 +388,10 @@ impl<R: Read> Iterator for SalvageFrom<R> {
 
 impl<R: Read> FusedIterator for SalvageFrom<R> {}
 
-/// More bytes than a unit can have that is accepted while this parameter set is held: a picture,
-/// half of it again for escaping, and some to spare. A parameter set has fewer than 64. A size or
-/// kind that no take has counts as nothing held, and its planes have no bytes.
+/// More bytes than a unit can have that is accepted while this parameter set is held: what a call
+/// that writes such a picture can need, parameter sets too, and some to spare.
 fn longest_unit(sps: Option<Sps>) -> usize {
-    let possible = sps.filter(|sps| sps.plane_lengths() != [0; 3]);
-    possible.map_or(0, |sps| longest_picture(&sps)) + 256
-}
-
-/// As many bytes as a picture can have with its start code and what escaping inserts, one byte for
-/// each two at most.
-pub fn longest_picture(sps: &Sps) -> usize {
-    let [across, down] = [sps.width, sps.height].map(|side| side.div_ceil(16) as usize);
-    let samples = if sps.colour { 384 } else { 256 };
-    let macroblock = samples * usize::from(sps.bit_depth.num_bits()) / 8 + 2;
-    across.saturating_mul(down).saturating_mul(macroblock).saturating_add(16).saturating_mul(3) / 2
+    sps.map_or(0, |sps| sps.room()) + 256
 }
 
 /// Bytes that are looked at together, with no branch for each: the compiler takes vectors then.
@@ -684,7 +688,6 @@ mod tests {
                 assert_eq!(longest > 256, possible, "{sps:?}");
                 assert_eq!(visible > 0, possible, "{sps:?}");
                 assert!(longest > visible && longest < 1 << 30, "{sps:?}");
-                assert!(longest_picture(&sps) >= longest - 256, "{sps:?}");
             }
         }
         assert_eq!(longest_unit(None), 256);
