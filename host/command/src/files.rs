@@ -171,7 +171,9 @@ impl Target {
             Replace::Never => return Err(exists(&name)),
             Replace::Force => {
                 // A link is followed: its target is what is replaced.
-                At::Old(fs::canonicalize(path).map_err(failed)?, Box::new(about))
+                let is_link = fs::symlink_metadata(path).is_ok_and(|about| about.is_symlink());
+                let path = if is_link { fs::canonicalize(path) } else { Ok(path.into()) };
+                At::Old(path.map_err(failed)?, Box::new(about))
             }
             Replace::InPlace if about.mode() & 0o222 == 0 => {
                 return Error::sentence(format!(
