@@ -27,7 +27,7 @@ reelpony record IN.y4m OUT.h264 [OPTION..]
 
 Writes a take from a Y4M of the kind mono, mono12, 420 or 420p12; - is standard input or output.
 
-  --force         replaces OUT, if it is there, once the new one is whole; mode and group stay
+  --force         replaces OUT, if it is there, at the end of the recording; mode and group stay
   --in-place      replaces OUT without room for old and new at once: the old bytes go when the first
                   picture is there, and if the work fails after that, they are gone
   --sets-every N  writes the parameter sets again before every Nth picture behind the first. A
@@ -35,12 +35,12 @@ Writes a take from a Y4M of the kind mono, mono12, 420 or 420p12; - is standard 
   --quiet         doesn't say what a take can't keep: frame rate, pixel aspect, where chroma is
                   sited, interlacing, limited range
 
-OUT grows picture by picture under its own name, and can be read meanwhile; with --force it is
-OUT.NUMBER.part until the end. Every two seconds it is brought onto the disk. If the source breaks off
-in a picture or the disk is full, the whole pictures before are kept: status 3. SIGINT, SIGTERM and
-SIGHUP end a recording behind the picture that is under way: status 0, or 3 where its rest doesn't
-come within two seconds or a second signal does, and 3 where IN is a file that isn't at its end. If
-there is no whole picture, nothing is left: status 1.";
+OUT grows picture by picture under its own name, and can be read meanwhile; where --force replaces a
+file, it is OUT.NUMBER.part until the end. Every two seconds it is brought onto the disk. If the source
+breaks off in a picture or the disk is full, the whole pictures before are kept: status 3. SIGINT,
+SIGTERM and SIGHUP end a recording behind the picture that is under way: status 0, or 3 where its rest
+doesn't come within two seconds or a second signal does, and 3 where IN is a file that isn't at its
+end. If there is no whole picture, nothing is left: status 1.";
 
 pub const LIST: &str = "\
 reelpony list TAKE [OPTION..]
