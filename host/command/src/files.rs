@@ -171,7 +171,9 @@ impl Target {
             Replace::Never => return Err(exists(&name)),
             Replace::Force => {
                 // A link is followed: its target is what is replaced.
-                At::Old(fs::canonicalize(path).map_err(failed)?, Box::new(about))
+                let is_link = fs::symlink_metadata(path).is_ok_and(|about| about.is_symlink());
+                let path = if is_link { fs::canonicalize(path) } else { Ok(path.into()) };
+                At::Old(path.map_err(failed)?, Box::new(about))
             }
             Replace::InPlace if about.mode() & 0o222 == 0 => {
                 return Error::sentence(format!(
@@ -213,8 +215,8 @@ impl Target {
             At::Old(last, old) => {
                 let (file, path) = create_part(&last, 0o600).map_err(failed)?;
                 // Taken away from here on if it can't be made like the old one.
-                let output =
-                    Output::new(file, name, Standing::Part { path, last, replaces: true })?;
+                let standing = Standing::Part { path, last, replaces: true };
+                let output = Output::new(file, name, standing);
                 take_over(&output, &old)?;
                 return Ok(output);
             }
@@ -226,7 +228,7 @@ impl Target {
                 (file, Standing::Straight { path, emptied: false })
             }
         };
-        Output::new(file, name, standing)
+        Ok(Output::new(file, name, standing))
     }
 }
 
@@ -358,9 +360,9 @@ impl Output {
         Target::find(path, read, replace)?.open(way)
     }
 
-    fn new(file: File, name: Name, standing: Standing) -> Result<Output> {
+    fn new(file: File, name: Name, standing: Standing) -> Output {
         let regular = file.metadata().is_ok_and(|about| about.is_file());
-        Ok(Output { file, name, standing, regular, syncing: None })
+        Output { file, name, standing, regular, syncing: None }
     }
 
     /// The name that it has until it is finished, where that is another one.
@@ -470,7 +472,13 @@ impl Drop for Output {
             let _ = syncing.end();
         }
         match &self.standing {
-            Standing::Straight { path, emptied: true } => drop(fs::remove_file(path)),
+            // Not if another file has got its name meanwhile.
+            Standing::Straight { path, emptied: true } => {
+                let own = self.file.metadata().ok().and_then(|about| Id::of(&about));
+                if own.is_some() && own == Id::of_path(path) {
+                    let _ = fs::remove_file(path);
+                }
+            }
             Standing::Part { path, .. } => {
                 let mut unfinished = unfinished();
                 let _ = fs::remove_file(path);

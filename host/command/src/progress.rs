@@ -65,9 +65,9 @@ impl Drop for Progress {
     }
 }
 
-/// A line on standard error. If that can't be written, there is nowhere to say so.
+/// A line on standard error, written at once. If that can't be, there is nowhere to say so.
 pub fn say(line: impl Display) {
-    let _ = writeln!(io::stderr().lock(), "reelpony: {line}");
+    let _ = io::stderr().lock().write_all(format!("reelpony: {line}\n").as_bytes());
 }
 
 /// `1 picture`, `2 pictures`.

@@ -89,14 +89,12 @@ pub fn run(from: &Path, to: &Path, options: &Options) -> Result<Outcome> {
     match (output.keep(bytes), why, signal) {
         (Err(Error::BrokenPipe), ..) => Err(Error::BrokenPipe),
         (Err(Error::Sentence(text) | Error::Usage(text)), why, _) => {
-            let why = why.map_or(String::new(), |why| format!("; before that, {why}"));
-            progress.say(format!(
-                "partial: {name}: {all}, but they may not be on the disk: {text}{why}"
-            ));
+            let why = why.map_or(String::new(), |why| format!("; it ended early: {why}"));
+            progress.say(format!("partial: {name}: {all}; but {text}{why}"));
             Ok(Outcome::Partial)
         }
         (Ok(()), Some(why), _) => {
-            progress.say(format!("partial: {name}: {all}; recording ended early: {why}"));
+            progress.say(format!("partial: {name}: {all}; it ended early: {why}"));
             Ok(Outcome::Partial)
         }
         (Ok(()), None, Some(signal)) => {
@@ -158,7 +156,7 @@ pub fn record<R: Feed>(
                 return recorded;
             }
         };
-        let is_again = |every| recorded.pictures > 0 && recorded.pictures % every == 0;
+        let is_again = |every| recorded.pictures > 0 && recorded.pictures.is_multiple_of(every);
         let before = if sets_every.is_some_and(is_again) { &sets[..] } else { &[] };
         let written = match before {
             [] => Ok(()),

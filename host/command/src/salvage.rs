@@ -3,13 +3,14 @@
 use std::io::{self, IsTerminal};
 use std::path::{Path, PathBuf};
 
-use reelpony::reader::Sps;
+use reelpony::reader::{Answer, PlanesMut, Reader, Sps};
 use reelpony::window::What;
 use reelpony::{Refusal, Window};
 
 use crate::error::{Error, Outcome, Result};
 use crate::files::{Id, Input, Name, Output, Replace, Text, Way};
 use crate::json::Object;
+use crate::kinds;
 use crate::look::{Look, Seen, Thing};
 use crate::progress::{counted, Progress};
 use crate::tally::{Loss, Part, Tally};
@@ -96,8 +97,15 @@ impl Take {
         let tally = &self.tally;
         let bytes = self.look.offset();
         let sizes: Vec<String> = self.look.ambiguous().iter().map(y4m::words).collect();
+        let front = self.look.front();
         match tally.first {
             _ if bytes == 0 => "is empty".into(),
+            _ if is_swapped(&front) => {
+                "is a take in which the bytes of each pair are swapped; dd conv=swab mends it".into()
+            }
+            Some(_) if kinds::told(&front).is_some() => {
+                kinds::told(&front).unwrap_or_default().into()
+            }
             _ if !sizes.is_empty() => format!(
                 "has pictures, but its sequence parameter set is damaged and may have meant {}; \
                  --size says which",
@@ -133,6 +141,13 @@ impl Take {
             self.progress.say(note);
         }
     }
+}
+
+/// Whether a file begins with a sequence parameter set whose bytes are swapped in pairs.
+fn is_swapped(front: &[u8]) -> bool {
+    let unswapped: Vec<u8> = front.chunks_exact(2).flat_map(|two| [two[1], two[0]]).collect();
+    let mut reader = Reader::new();
+    matches!(reader.read(&unswapped, PlanesMut::none()), Answer::Sps { .. })
 }
 
 /// The sequence parameter set that a take begins with, if both sets stand before its first picture.

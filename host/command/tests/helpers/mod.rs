@@ -2,10 +2,13 @@
 
 #![allow(dead_code)]
 
+use std::ffi::OsStr;
 use std::fs;
 use std::io::Write;
 use std::path::{Path, PathBuf};
-use std::process::{Command, Output, Stdio};
+use std::process::{Child, ChildStdin, Command, Output, Stdio};
+use std::thread::sleep;
+use std::time::{Duration, Instant};
 
 use common::Noise;
 
@@ -17,7 +20,7 @@ pub fn folder(name: &str) -> PathBuf {
     folder
 }
 
-pub fn command(folder: &Path, arguments: &[&str]) -> Command {
+pub fn command(folder: &Path, arguments: &[impl AsRef<OsStr>]) -> Command {
     let mut command = Command::new(env!("CARGO_BIN_EXE_reelpony"));
     command.args(arguments).current_dir(folder).stdin(Stdio::null());
     command
@@ -42,7 +45,7 @@ impl Ran {
     }
 }
 
-pub fn run(folder: &Path, arguments: &[&str]) -> Ran {
+pub fn run(folder: &Path, arguments: &[impl AsRef<OsStr>]) -> Ran {
     Ran::of(command(folder, arguments).output().unwrap())
 }
 
@@ -61,6 +64,61 @@ pub fn run_with(folder: &Path, arguments: &[&str], input: &[u8]) -> Ran {
         });
         Ran::of(child.wait_with_output().unwrap())
     })
+}
+
+/// Waits until something is so; it must be within some seconds.
+pub fn until(what: &str, is_so: impl Fn() -> bool) {
+    let begun = Instant::now();
+    while !is_so() {
+        assert!(begun.elapsed() < Duration::from_secs(20), "{what}");
+        sleep(Duration::from_millis(2));
+    }
+}
+
+/// A run under way, whose standard input the test writes.
+pub struct Running {
+    pub child: Child,
+    pub pipe: Option<ChildStdin>,
+}
+
+impl Running {
+    pub fn begin(mut command: Command) -> Running {
+        command.stdin(Stdio::piped()).stdout(Stdio::piped()).stderr(Stdio::piped());
+        let mut child = command.spawn().unwrap();
+        let pipe = child.stdin.take();
+        Running { child, pipe }
+    }
+
+    pub fn feed(&mut self, bytes: &[u8]) {
+        self.pipe.as_mut().unwrap().write_all(bytes).unwrap();
+    }
+
+    pub fn signal(&self, name: &str) {
+        let id = self.child.id().to_string();
+        assert!(Command::new("kill").args(["-s", name, &id]).status().unwrap().success());
+    }
+
+    /// Waits until the run catches a signal, by its number.
+    pub fn until_it_catches(&self, signal: u32) {
+        let status = format!("/proc/{}/status", self.child.id());
+        until("no signal is caught", || {
+            let status = fs::read_to_string(&status).unwrap();
+            let caught = status.lines().find_map(|line| line.strip_prefix("SigCgt:\t")).unwrap();
+            u64::from_str_radix(caught, 16).unwrap() >> (signal - 1) & 1 == 1
+        });
+    }
+
+    /// Waits for the end. The pipe stays open up to there, unless the test closed it.
+    pub fn output(self) -> Output {
+        let Running { child, pipe } = self;
+        let output = child.wait_with_output().unwrap();
+        drop(pipe);
+        output
+    }
+
+    pub fn end(self) -> Ran {
+        Ran::of(self.output())
+    }
 }
 
 /// A run that must fail with one sentence on standard error and nothing else.
