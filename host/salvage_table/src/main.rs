@@ -105,7 +105,7 @@ fn judge(row: &Row, files: &[Figures]) -> Vec<String> {
     for (case, file) in row.cases.iter().zip(files) {
         let at = |what: String| match &case.words[..] {
             "" => what,
-            words => format!("{words}: {what}"),
+            words => format!("{words} ({what})"),
         };
         let theirs_alone = file.theirs_alone();
         if !theirs_alone.is_empty() {
@@ -127,7 +127,7 @@ fn judge(row: &Row, files: &[Figures]) -> Vec<String> {
         (!places.is_empty()).then(|| format!("{name}: {what}{}", places.join("; ")))
     };
     let sentences = [
-        sentence("only ffmpeg has pictures ", alone),
+        sentence("only ffmpeg saves: ", alone),
         sentence("unmarked, but not as written: ", differing),
         sentence("", wrong),
     ];
@@ -215,5 +215,43 @@ fn main() -> ExitCode {
             eprintln!("salvage_table: {what}");
             ExitCode::from(2)
         }
+    }
+}
+
+#[cfg(test)]
+mod tests {
+    use super::*;
+    use damage::{tests::tiny, Case};
+    use figures::{Ours, Theirs};
+
+    #[test]
+    fn numbers() {
+        assert_eq!(ranges(&[]), "");
+        assert_eq!(ranges(&[1, 5, 6, 7, 9, 10]), "1, 5 to 7, 9 to 10");
+    }
+
+    /// Each promise that is broken is told, and nothing else.
+    #[test]
+    fn judged() {
+        let case = Case { words: String::new(), edits: vec![], unseen: None };
+        let (words, take) = ("a row".into(), tiny().into());
+        let mut row = Row { words, take, cases: vec![case], options: vec![], may_differ: None };
+        let figures = |theirs: &[usize], differing: usize| {
+            let equal = [0, 2].into();
+            let ours = Some(Ours { equal, marked: 1, differing, differing_marked: 1 });
+            let ffmpeg = Some(Theirs { equal: theirs.iter().copied().collect(), differing: 2 });
+            [Figures { written: 4, untouched: 3, ours, ffmpeg, ..Figures::default() }]
+        };
+        assert_eq!(judge(&row, &figures(&[0, 2], 0)), [""; 0]);
+        let alone = ["16x10:mono, a row: only ffmpeg saves: 2, 4"];
+        assert_eq!(judge(&row, &figures(&[0, 1, 3], 0)), alone);
+        let differing = ["16x10:mono, a row: unmarked, but not as written: 1, 0 may"];
+        assert_eq!(judge(&row, &figures(&[2], 1)), differing);
+        row.may_differ = Some("changed samples");
+        assert_eq!(judge(&row, &figures(&[2], 1)), [""; 0]);
+        let differing = ["16x10:mono, a row: unmarked, but not as written: 2, 1 may"];
+        assert_eq!(judge(&row, &figures(&[2], 2)), differing);
+        row.cases[0].unseen = Some("16x12:mono".into());
+        assert_eq!(judge(&row, &figures(&[2], 4)), [""; 0]);
     }
 }
