@@ -101,11 +101,15 @@ pub fn fit(bytes: &[u8], sps: Sps, header_may_err: bool, planes: Option<PlanesMu
     if first > usize::from(header_may_err) {
         return None;
     }
-    let (mut payload, end, between) = Macroblocks::of(&sps).payload_of(bytes)?;
+    let macroblocks = Macroblocks::of(&sps);
+    let (mut payload, end, between) = macroblocks.payload_of(bytes)?;
     let behind = &bytes[end..];
     let last = usize::from(behind.first() != Some(&LAST));
-    // One more macroblock would be that of a larger picture.
-    if first + between + last > 1 || behind.starts_with(&MB_TYPE) {
+    // One more macroblock would be that of a larger picture, and where there is but one, its last
+    // byte or the unit's end is all that tells its kind.
+    let larger = behind.starts_with(&MB_TYPE);
+    let untold = macroblocks.count == 1 && behind.len() > BORDER;
+    if first + between + last > 1 || larger || (last > 0 && untold) {
         return None;
     }
     payload[..SLICE_HEADER.len()].copy_from_slice(&SLICE_HEADER);

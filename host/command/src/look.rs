@@ -428,7 +428,8 @@ impl Look {
         }
         self.tries += 1;
         if self.candidates.is_none() {
-            let mut all = sets::in_bytes(&self.front());
+            let front = self.bytes(0, offset.min(NEAR))?.unwrap_or_default();
+            let mut all = sets::in_bytes(&front);
             let near = self.bytes(offset.saturating_sub(NEAR), offset)?.unwrap_or_default();
             all.extend(sets::in_bytes(&near));
             all.extend(sets::later(self.window.source(), offset)?);

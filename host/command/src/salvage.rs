@@ -101,7 +101,8 @@ impl Take {
         match tally.first {
             _ if bytes == 0 => "is empty".into(),
             _ if is_swapped(&front) => {
-                "is a take in which the bytes of each pair are swapped; dd conv=swab mends it".into()
+                "is a take in which the bytes of each pair are swapped; dd conv=swab mends it"
+                    .into()
             }
             Some(_) if kinds::told(&front).is_some() => {
                 kinds::told(&front).unwrap_or_default().into()

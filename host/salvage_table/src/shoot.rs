@@ -116,7 +116,7 @@ impl Take {
             match found.what {
                 What::Sps(_) | What::Pps => take.sets.push(begin..end),
                 What::Picture => take.pictures.push(begin - 4..end),
-                What::Refused(refusal) => return Err(format!("a whole take: {refusal}")),
+                other => return Err(format!("a whole take has {other:?}")),
             }
         }
         let mut digests: Vec<Md5> = take.written.iter().map(|written| written.md5).collect();
