@@ -346,8 +346,8 @@ fn second_signals() {
         running.signal("INT");
         sleep(Duration::from_millis(30));
     }
-    let died = running.child.wait().unwrap();
-    assert_eq!(died.signal(), Some(2));
+    until("the third signal doesn't end it", || running.child.try_wait().unwrap().is_some());
+    assert_eq!(running.child.wait().unwrap().signal(), Some(2));
     feeding.join().unwrap();
 }
 

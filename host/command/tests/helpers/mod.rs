@@ -67,7 +67,7 @@ pub fn run_with(folder: &Path, arguments: &[&str], input: &[u8]) -> Ran {
 }
 
 /// Waits until something is so; it must be within some seconds.
-pub fn until(what: &str, is_so: impl Fn() -> bool) {
+pub fn until(what: &str, mut is_so: impl FnMut() -> bool) {
     let begun = Instant::now();
     while !is_so() {
         assert!(begun.elapsed() < Duration::from_secs(20), "{what}");
