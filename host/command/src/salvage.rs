@@ -68,6 +68,15 @@ impl Take {
     fn next(&mut self) -> Result<Option<(Thing, Option<Loss>)>> {
         let next = self.look.next().map_err(|error| Error::reading(&self.name, error))?;
         let Some(thing) = next else { return Ok(None) };
+        if let (Seen::Another(sps), 0) = (&thing.seen, self.tally.pictures()) {
+            if let Some((option, given)) = self.given.take() {
+                let [given, size] = [&given, sps].map(y4m::words);
+                let offset = thing.offset;
+                self.progress.say(format!(
+                    "{option} gives {given}; at offset {offset} the take says {size}"
+                ));
+            }
+        }
         self.tally.is_of(self.look.sps());
         let lost = self.tally.add(&thing);
         Ok(Some((thing, lost)))
@@ -367,7 +376,7 @@ pub fn extract(
 ) -> Result<Outcome> {
     let mut take = Take::open(from, looking, true)?;
     let mut outputs = Outputs::new(to, rate, replace, part, take.read.clone())?;
-    let mut teller = Teller { given: take.given, ..Teller::default() };
+    let mut teller = Teller::default();
     let outcome = save(&mut take, &mut outputs, &mut |progress, told| teller.tell(progress, told));
     teller.finish(&mut take.progress);
     outcome?;
@@ -418,7 +427,7 @@ fn save(
                     outputs.write(&sps, mark.is_some(), take.look.planes())?;
                 }
             }
-            Seen::Another(sps) => {
+            Seen::Another(sps) if take.tally.pictures() > 0 => {
                 tell(&mut take.progress, Told::Another(thing.offset, *sps));
                 outputs.next_part()?;
             }
@@ -565,8 +574,6 @@ fn numbered(path: &Path, part: u64) -> PathBuf {
 /// Tells pictures of a second look and losses, many alike in one line.
 #[derive(Default)]
 struct Teller {
-    /// The option that named a size and kind, as long as no picture was of it.
-    given: Option<(&'static str, Sps)>,
     /// Pictures in a row with the same mark: the first, the last, the mark.
     run: Option<(u64, u64, String)>,
     /// Of each refusal: how often it was told, and places and pictures that were not.
@@ -576,21 +583,11 @@ struct Teller {
 impl Teller {
     fn tell(&mut self, progress: &mut Progress, told: Told) {
         match told {
-            Told::Picture(number, mark) => {
-                self.given = None;
-                self.picture(progress, number, mark);
-            }
+            Told::Picture(number, mark) => self.picture(progress, number, mark),
             Told::Another(offset, sps) => {
                 self.flush(progress);
                 let size = y4m::words(&sps);
-                let line = match self.given.take() {
-                    Some((option, given)) => {
-                        let given = y4m::words(&given);
-                        format!("{option} gives {given}; at offset {offset} the take says {size}")
-                    }
-                    None => format!("another take begins at offset {offset}: {size}"),
-                };
-                progress.say(line);
+                progress.say(format!("another take begins at offset {offset}: {size}"));
             }
             Told::Lost(loss) => self.lost(progress, loss),
         }

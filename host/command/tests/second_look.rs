@@ -216,6 +216,10 @@ fn given_sizes() {
         let said =
             format!("--like gives {}; at offset 4 the take says {}\n", other.words, kind.words);
         assert!(ran.said.contains(&said), "{}", ran.said);
+        for verb in ["list", "check"] {
+            let ran = run(&shoot.folder, &[verb, "take.h264", "--like", "other.h264"]);
+            assert_eq!((ran.status, ran.said), (0, format!("reelpony: {said}")), "{verb}");
+        }
         let (found, ran) = shoot.extract(bytes, &["--like", "other.h264"]);
         assert!(found.is_empty() && ran.status == 1, "{}", ran.said);
         assert!(ran.said.contains("of the size that --like gives"), "{}", ran.said);
