@@ -20,9 +20,9 @@ use crate::y4m;
 
 /// Bytes before a picture, and at a file's front, in which lost parameter sets are sought.
 const NEAR: u64 = 1 << 12;
-/// Bytes of a stretch that are sought through at a time, at least.
+/// Bytes of a stretch that are sought through at a time, at least; and a player's unit, at most.
 const STEP: u64 = 1 << 20;
-/// Bytes that are held at once, at most; the largest picture has fewer.
+/// Bytes of a pipe that are kept, at most.
 const LARGEST: usize = 1 << 30;
 /// Refused pictures for which parameter sets are sought.
 const TRIES: u32 = 20;
@@ -62,6 +62,8 @@ struct Stretch {
     /// Where its bytes begin, behind the start code if it has one.
     from: u64,
     to: u64,
+    /// How many there are without zeros at the end.
+    length: u64,
     /// Whether a start code stands before it.
     unit: bool,
     refusal: Refusal,
@@ -236,7 +238,7 @@ impl Look {
     fn picture(&mut self, offset: u64, length: u64) -> io::Result<()> {
         self.taken += 1;
         if let Some(other) = self.other.take() {
-            let unit = self.unit(offset, length)?;
+            let unit = self.unit_of(&other.sps, offset, length)?;
             if self.show(&unit, other.sps)? {
                 match other.alike {
                     // Rather a damaged set than another take's.
@@ -271,7 +273,7 @@ impl Look {
         let Thing { offset, length, .. } = thing;
         let to = self.window.offset();
         match refusal {
-            Refusal::Header => {
+            Refusal::Header if length <= STEP => {
                 let unit = self.unit(offset, length)?;
                 if let Some(name) = foreign(&unit) {
                     self.tell(Thing { offset, length, seen: Seen::Foreign(name) });
@@ -290,18 +292,15 @@ impl Look {
                     return Ok(());
                 }
             }
-            Refusal::NothingHeld => {
-                let unit = self.unit(offset, length)?;
-                if self.assume(offset, &unit)? {
-                    let mark = self.mark(None);
-                    self.tell_all(Thing { offset, length, seen: Seen::Picture(mark) });
-                    return Ok(());
-                }
+            Refusal::NothingHeld if self.assume(offset, length)? => {
+                let mark = self.mark(None);
+                self.tell_all(Thing { offset, length, seen: Seen::Picture(mark) });
+                return Ok(());
             }
             _ => {}
         }
         if let Some(other) = self.other.take() {
-            let unit = self.unit(offset, length)?;
+            let unit = self.unit_of(&other.sps, offset, length)?;
             if self.show(&unit, other.sps)? {
                 self.go_over(other)?;
                 self.tell_all(Thing { offset, length, seen: Seen::Picture(None) });
@@ -315,7 +314,8 @@ impl Look {
         }
         self.ready.append(&mut self.kept_back);
         let unit = refusal != Refusal::Stray;
-        self.stretch = Some(Stretch { from: offset, to, unit, refusal, rest: offset, at: offset });
+        let (rest, at) = (offset, offset);
+        self.stretch = Some(Stretch { from: offset, to, length, unit, refusal, rest, at });
         Ok(())
     }
 
@@ -345,12 +345,10 @@ impl Look {
             }
             stretch.at += last as u64;
         }
-        if stretch.rest == stretch.from && self.taken == 0 {
-            let unit = self.unit(stretch.from, stretch.to - stretch.from)?;
-            let length = trimmed(&unit);
-            if stretch.unit && self.assume(stretch.from, &unit[..length])? {
+        if stretch.unit && stretch.rest == stretch.from && self.taken == 0 {
+            let (offset, length) = (stretch.from, stretch.length);
+            if self.assume(offset, length)? {
                 let mark = self.mark(None);
-                let (offset, length) = (stretch.from, length as u64);
                 self.ready.push_back(Thing { offset, length, seen: Seen::Picture(mark) });
                 return Ok(());
             }
@@ -416,14 +414,15 @@ impl Look {
     }
 
     /// Looks for parameter sets with which a unit is a picture, and goes by them from here on.
-    fn assume(&mut self, offset: u64, unit: &[u8]) -> io::Result<bool> {
+    fn assume(&mut self, offset: u64, length: u64) -> io::Result<bool> {
         if let (Some(sps), false) = (self.window.sps(), self.window.has_pps()) {
-            if self.show(unit, sps)? {
+            let unit = self.unit_of(&sps, offset, length)?;
+            if self.show(&unit, sps)? {
                 self.hold_assumed(sps, None, offset)?;
                 return Ok(true);
             }
         }
-        if self.given || self.tries == TRIES || unit.first() != Some(&PICTURE) {
+        if self.given || self.tries == TRIES {
             return Ok(false);
         }
         self.tries += 1;
@@ -436,6 +435,10 @@ impl Look {
             all.sort_by_key(|(origin, _)| *origin);
             self.candidates = Some(all);
         }
+        let largest = self.candidates.iter().flatten().max_by_key(|(_, sps)| sps.room());
+        let Some((_, largest)) = largest.copied() else { return Ok(false) };
+        let unit = self.unit_of(&largest, offset, length)?;
+        let unit = &unit[..];
         let mut fitting: Vec<(Origin, Sps)> = Vec::new();
         for (origin, sps) in self.candidates.iter().flatten() {
             let known = fitting.iter().any(|(_, other)| other == sps);
@@ -517,10 +520,17 @@ impl Look {
         self.window.source_mut().keep((2 * sps.room() + NEAR as usize).min(LARGEST));
     }
 
-    /// The bytes of a unit, or its first ones; none where they are no longer there.
+    /// The bytes of a unit, if it is no longer than a picture of this size and kind can be.
+    fn unit_of(&self, sps: &Sps, offset: u64, length: u64) -> io::Result<Vec<u8>> {
+        match length <= sps.room() as u64 {
+            true => self.unit(offset, length),
+            false => Ok(Vec::new()),
+        }
+    }
+
+    /// The bytes of a unit; none where they are no longer there.
     fn unit(&self, offset: u64, length: u64) -> io::Result<Vec<u8>> {
-        let bytes = self.bytes(offset, offset + length.min(LARGEST as u64))?;
-        Ok(bytes.unwrap_or_default())
+        Ok(self.bytes(offset, offset + length)?.unwrap_or_default())
     }
 
     fn bytes(&self, from: u64, to: u64) -> io::Result<Option<Vec<u8>>> {
