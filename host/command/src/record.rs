@@ -156,7 +156,7 @@ pub fn record<R: Feed>(
                 return recorded;
             }
         };
-        let is_again = |every| recorded.pictures > 0 && recorded.pictures.is_multiple_of(every);
+        let is_again = |every| recorded.pictures > 0 && recorded.pictures % every == 0;
         let before = if sets_every.is_some_and(is_again) { &sets[..] } else { &[] };
         let written = match before {
             [] => Ok(()),
