@@ -38,7 +38,7 @@ pub fn bit_at(s: &[u8], place: usize) -> u8
 }
 
 // Sets the bit at `place` to `v` and no other.
-pub fn set_bit(s: &mut [u8], place: usize, v: u8)
+fn set_bit(s: &mut [u8], place: usize, v: u8)
     requires { ⌜ (place < 8 * length (now s)) × (v < 2) ⌝ }
     ensures { λ _. ⌜ bitsOf (now (s .exit)) ≡ set (bitsOf (now (s .entry))) place v ⌝ }
 {

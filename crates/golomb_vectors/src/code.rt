@@ -1,6 +1,7 @@
 // One code, written into a buffer and read back. What is wanted of it is given as a text of the digits 0 and 1.
 use crate::count::Tally;
 use crate::count::counted;
+use crate::through;
 use golomb::CodeWritten;
 use golomb::SeRead;
 use golomb::UeRead;
@@ -46,7 +47,7 @@ fn refusal(answer: CodeWritten) -> u32 {
 
 // Whether reading an unsigned code answers this number and place.
 fn reads_ue(payload: &[u8], place: usize, x: u32, behind: usize) -> bool {
-    match golomb::read_ue(payload, place) {
+    match through::ue(payload, place) {
         UeRead::Number(y, p) => y == x && p == behind,
         UeRead::NoCode => false,
     }
@@ -54,7 +55,7 @@ fn reads_ue(payload: &[u8], place: usize, x: u32, behind: usize) -> bool {
 
 // The same of a signed code.
 fn reads_se(payload: &[u8], place: usize, x: i32, behind: usize) -> bool {
-    match golomb::read_se(payload, place) {
+    match through::se(payload, place) {
         SeRead::Number(y, p) => y == x && p == behind,
         SeRead::NoCode => false,
     }
@@ -70,10 +71,10 @@ pub fn reads(payload: &[u8], place: usize, x: Number, behind: usize) -> bool {
 
 // Whether reading is refused with 22, of both kinds.
 pub fn unread(payload: &[u8], place: usize) -> bool {
-    let UeRead::NoCode = golomb::read_ue(payload, place) else {
+    let UeRead::NoCode = through::ue(payload, place) else {
         return false;
     };
-    let SeRead::NoCode = golomb::read_se(payload, place) else {
+    let SeRead::NoCode = through::se(payload, place) else {
         return false;
     };
     true

@@ -4,6 +4,7 @@ mod code;
 mod count;
 mod limits;
 mod list;
+mod through;
 mod vectors;
 
 use count::Tally;

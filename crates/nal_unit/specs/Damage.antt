@@ -147,7 +147,7 @@ module _ {H A : Type 0} (judge : H → List ℕ → Verdict H A) where
           e = omega (arith, next-most y t, length-drop n y, ap length z)
 
   -- the call at a whole unit
-  aft-whole : (n : ℕ) (h : H) (p : ℕ) (s u r : List ℕ) → Calm s → drop (next s) s ≡ startCode (u ++ r) → Whole u → Calm r → judge h u .stay ≡ false
+  pub aft-whole : (n : ℕ) (h : H) (p : ℕ) (s u r : List ℕ) → Calm s → drop (next s) s ≡ startCode (u ++ r) → Whole u → Calm r → judge h u .stay ≡ false
       → aft judge (suc n) h p s ≡ aft judge n (judge h u .held) (p + (next s + suc (suc (suc (length u + next r))))) (drop (next r) r)
   aft-whole n h p s u r c e w d m =
       rw (whole-unit u r w d, whole-next u r w, drop-append-add u r (next r)) at (aft-call n h p s (u ++ r) c e (rw (whole-unit u r w d) m))

@@ -1,10 +1,12 @@
 -- A unit's payload by the places of the slice that holds it (7.3.1), with no count carried: a byte is an inserted one exactly if it is 03 and the two
 -- bytes before it are 00. The first byte of a unit, its header, is above 0, so that no byte before the unit decides what one of its payload is. No law
 -- here asks that the unit be without fault.
+--     before s p k      the byte of s that stands k places before p; where s has none there, 1, which is no zero
 --     ins a b x         whether the byte x, behind the bytes a and b, is an inserted one
---     insAt s p         whether the byte of s at the place p is, where p is 2 or more
+--     insAt s p         whether the byte of s at the place p is; so none is at the places 0 and 1. ins-at: the bytes at p - 2, p - 1 and p say it, from 2 on
 --     kept s p e        the bytes of s from p up to e that are not: what that stretch holds of the payload
 --     insCount s p e    how many are
+--     kept-whole        from the place 0 on, before which nothing stands, what is kept is the unescaping of the whole
 --     kept-un           from behind a unit's header up to its end, what is kept is its payload
 --     un-kept, un-few   bytes with no header before them: the first two are payload whatever they are, and what is kept from the third on is the rest
 --     kept-more, kept-plain, kept-end    a stretch by its first byte; count-step, count-end the same of the count
@@ -19,7 +21,7 @@ use mathlib.Core.List.{List, [], _∷_, _++_}
 use mathlib.Core.Bool.{Bool, true, false, cond, _&&_, and-true, and-false, and-assoc, and-eq-true-iff}
 use Prim.Native.Nat.{ℕ, zero, suc, _+_, _-_, _≤_, _<_}
 use native.Mathlib.Numerals.{add-one}
-use native.Mathlib.Nat.{zero-add}
+use native.Mathlib.Nat.{zero-add, sub-zero}
 use native.Mathlib.Omega.{arith}
 use lib.Dec.{leb, eqb, leb·suc-suc}
 use lib.ListN.{length, drop, getD, length-append}
@@ -42,14 +44,36 @@ unfoldable pub insIn : ℕ → ℕ → List ℕ → ℕ
 insIn a b [] = 0
 insIn a b (x ∷ xs) = cond (ins a b x) (suc (insIn b x xs)) (insIn b x xs)
 
+-- before the first byte there is none: 1 stands for it, since only a zero there would make another byte an inserted one
+unfoldable pub before : List ℕ → ℕ → ℕ → ℕ
+before s p k = cond (leb k p) (getD s (p - k) 0) 1
+
 unfoldable pub insAt : List ℕ → ℕ → Bool
-insAt s p = ins (getD s (p - 2) 0) (getD s (p - 1) 0) (getD s p 0)
+insAt s p = ins (before s p 2) (before s p 1) (getD s p 0)
 
 unfoldable pub kept : List ℕ → ℕ → ℕ → List ℕ
-kept s p e = keep (getD s (p - 2) 0) (getD s (p - 1) 0) (part s p (e - p))
+kept s p e = keep (before s p 2) (before s p 1) (part s p (e - p))
 
 unfoldable pub insCount : List ℕ → ℕ → ℕ → ℕ
-insCount s p e = insIn (getD s (p - 2) 0) (getD s (p - 1) 0) (part s p (e - p))
+insCount s p e = insIn (before s p 2) (before s p 1) (part s p (e - p))
+
+-- from the place 2 on, the two bytes before are those of the slice
+pub ins-at : (s : List ℕ) (p : ℕ) → 2 ≤ p → insAt s p ≡ ins (getD s (p - 2) 0) (getD s (p - 1) 0) (getD s p 0)
+unfolding insAt before
+ins-at s p h = rw (le-leb 2 p h, le-leb 1 p (omega arith)) refl
+
+-- a place further on, the byte two before is the one that was one before, and that one before is the byte at the place
+before-two : (s : List ℕ) (p : ℕ) → before s (p + 1) 2 ≡ before s p 1
+unfolding before
+before-two s p =
+    let f : p + 1 - 2 ≡ p - 1 = omega arith in
+    rw (add-one p, leb·suc-suc 1 p, ← add-one p, f) refl
+
+before-one : (s : List ℕ) (p : ℕ) → before s (p + 1) 1 ≡ getD s p 0
+unfolding before
+before-one s p =
+    let f : p + 1 - 1 ≡ p = omega arith in
+    rw (le-leb 1 (p + 1) (omega arith), f) refl
 
 -- the two bytes a and b tell what a count of z zero bytes does
 record Tells (a b z : ℕ) : Type 0 where
@@ -91,14 +115,18 @@ pub kept-un : (s : List ℕ) (o e : ℕ) → o < e → e ≤ length s → 0 < ge
 unfolding kept
 kept-un s o e h l i =
     let f : e - o ≡ e - (o + 1) + 1 = omega arith in
-    let g : o + 1 - 1 ≡ o = omega arith in
     let n : eqb (getD s o 0) 0 ≡ false = ne-eqb (getD s o 0) 0 (λ z. omega arith) in
-    rw (f, part-cons s o (e - (o + 1)) (omega arith), g)
-    (sym (keep-un (getD s (o + 1 - 2) 0) (getD s o 0) 0 (part s (o + 1) (e - (o + 1))) record { two = rw n (sym (and-false (eqb (getD s (o + 1 - 2) 0) 0))); one = sym n }))
+    rw (f, part-cons s o (e - (o + 1)) (omega arith), before-one s o)
+    (sym (keep-un (before s (o + 1) 2) (getD s o 0) 0 (part s (o + 1) (e - (o + 1))) record { two = rw n (sym (and-false (eqb (before s (o + 1) 2) 0))); one = sym n }))
+
+-- From the place 0 on all is unescaped, with nothing before it.
+pub kept-whole : (s : List ℕ) → kept s 0 (length s) ≡ un s
+unfolding kept before part
+kept-whole s = rw (sub-zero (length s), take-length s) (sym (keep-un 1 1 0 s record { two = refl; one = refl }))
 
 -- The payload of bytes with no header before them: their first two, and what is kept behind these; fewer than two are all of it.
 pub un-kept : (s : List ℕ) → 2 ≤ length s → un s ≡ part s 0 2 ++ kept s 2 (length s)
-unfolding kept keep ins part
+unfolding kept keep ins part before
 un-kept [] h = absurd (omega arith)
 un-kept (x ∷ []) h = absurd (omega arith)
 un-kept (x ∷ y ∷ t) h =
@@ -113,21 +141,19 @@ un-few (x ∷ y ∷ t) h = absurd (omega arith)
 
 -- A stretch by its first byte
 
-kept-step : (s : List ℕ) (p e : ℕ) → 1 ≤ p → p < e → e ≤ length s → kept s p e ≡ cond (insAt s p) (kept s (p + 1) e) (getD s p 0 ∷ kept s (p + 1) e)
+kept-step : (s : List ℕ) (p e : ℕ) → p < e → e ≤ length s → kept s p e ≡ cond (insAt s p) (kept s (p + 1) e) (getD s p 0 ∷ kept s (p + 1) e)
 unfolding kept keep insAt
-kept-step s p e i h l =
+kept-step s p e h l =
     let f : e - p ≡ e - (p + 1) + 1 = omega arith in
-    let g : p + 1 - 2 ≡ p - 1 = omega arith in
-    let k : p + 1 - 1 ≡ p = omega arith in
-    rw (f, part-cons s p (e - (p + 1)) (omega arith), g, k) refl
+    rw (f, part-cons s p (e - (p + 1)) (omega arith), before-two s p, before-one s p) refl
 
 -- an inserted byte is passed over
-pub kept-more : (s : List ℕ) (p e : ℕ) → 1 ≤ p → p < e → e ≤ length s → insAt s p ≡ true → kept s p e ≡ kept s (p + 1) e
-kept-more s p e i h l t = rw (kept-step s p e i h l, t) refl
+pub kept-more : (s : List ℕ) (p e : ℕ) → p < e → e ≤ length s → insAt s p ≡ true → kept s p e ≡ kept s (p + 1) e
+kept-more s p e h l t = rw (kept-step s p e h l, t) refl
 
 -- another is the first that is kept
-pub kept-plain : (s : List ℕ) (p e : ℕ) → 1 ≤ p → p < e → e ≤ length s → insAt s p ≡ false → kept s p e ≡ getD s p 0 ∷ kept s (p + 1) e
-kept-plain s p e i h l t = rw (kept-step s p e i h l, t) refl
+pub kept-plain : (s : List ℕ) (p e : ℕ) → p < e → e ≤ length s → insAt s p ≡ false → kept s p e ≡ getD s p 0 ∷ kept s (p + 1) e
+kept-plain s p e h l t = rw (kept-step s p e h l, t) refl
 
 -- at the end nothing is left
 pub kept-end : (s : List ℕ) (p e : ℕ) → e ≤ p → kept s p e ≡ []
@@ -137,13 +163,11 @@ kept-end s p e h =
     rw (f, part-none s p) refl
 
 -- the inserted bytes by the first, and at the end
-pub count-step : (s : List ℕ) (p e : ℕ) → 1 ≤ p → p < e → e ≤ length s → insCount s p e ≡ cond (insAt s p) 1 0 + insCount s (p + 1) e
+pub count-step : (s : List ℕ) (p e : ℕ) → p < e → e ≤ length s → insCount s p e ≡ cond (insAt s p) 1 0 + insCount s (p + 1) e
 unfolding insCount insIn insAt
-count-step s p e i h l =
+count-step s p e h l =
     let f : e - p ≡ e - (p + 1) + 1 = omega arith in
-    let g : p + 1 - 2 ≡ p - 1 = omega arith in
-    let k : p + 1 - 1 ≡ p = omega arith in
-    rw (f, part-cons s p (e - (p + 1)) (omega arith), g, k) (one (ins (getD s (p - 2) 0) (getD s (p - 1) 0) (getD s p 0)) (insIn (getD s (p - 1) 0) (getD s p 0) (part s (p + 1) (e - (p + 1)))))
+    rw (f, part-cons s p (e - (p + 1)) (omega arith), before-two s p, before-one s p) (one (ins (before s p 2) (before s p 1) (getD s p 0)) (insIn (before s p 1) (getD s p 0) (part s (p + 1) (e - (p + 1)))))
   where
     one : (b : Bool) (n : ℕ) → cond b (suc n) n ≡ cond b 1 0 + n
     one true n = omega arith
@@ -168,7 +192,7 @@ keep-length a b (x ∷ xs) = by (ins a b x) (keep-length b x xs)
 -- each byte of a stretch is kept or was inserted
 pub kept-length : (s : List ℕ) (p e : ℕ) → p ≤ e → e ≤ length s → length (kept s p e) + insCount s p e ≡ e - p
 unfolding kept insCount
-kept-length s p e h l = keep-length (getD s (p - 2) 0) (getD s (p - 1) 0) (part s p (e - p)) ∙ part-length s p (e - p) (omega arith)
+kept-length s p e h l = keep-length (before s p 2) (before s p 1) (part s p (e - p)) ∙ part-length s p (e - p) (omega arith)
 
 -- where something is kept, the stretch is not at its end
 pub kept-some : (s : List ℕ) (p e : ℕ) → 0 < length (kept s p e) → p < e
@@ -179,15 +203,15 @@ pub kept-room : (s : List ℕ) (p e n : ℕ) → p ≤ e → e ≤ length s → 
 kept-room s p e n h l k = omega (arith, kept-length s p e h l)
 
 -- two stretches side by side
-pub kept-append : (s : List ℕ) (p m e : ℕ) → 1 ≤ p → p ≤ m → m ≤ e → e ≤ length s → kept s p e ≡ kept s p m ++ kept s m e
-kept-append s p m e i h k l = by (m - p) p i (omega arith)
+pub kept-append : (s : List ℕ) (p m e : ℕ) → p ≤ m → m ≤ e → e ≤ length s → kept s p e ≡ kept s p m ++ kept s m e
+kept-append s p m e h k l = by (m - p) p (omega arith)
   where
-    by : (n p : ℕ) → 1 ≤ p → p + n ≡ m → kept s p e ≡ kept s p m ++ kept s m e
-    by zero p i q =
+    by : (n p : ℕ) → p + n ≡ m → kept s p e ≡ kept s p m ++ kept s m e
+    by zero p q =
         let f : p ≡ m = omega arith in
         rw (f, kept-end s m m (omega arith)) refl
-    by (suc n) p i q =
-        rw (kept-step s p e i (omega arith) l, kept-step s p m i (omega arith) (omega arith)) (both (insAt s p) (by n (p + 1) (omega arith) (omega arith)))
+    by (suc n) p q =
+        rw (kept-step s p e (omega arith) l, kept-step s p m (omega arith) (omega arith)) (both (insAt s p) (by n (p + 1) (omega arith)))
       where
         both : (b : Bool) → kept s (p + 1) e ≡ kept s (p + 1) m ++ kept s m e
             → cond b (kept s (p + 1) e) (getD s p 0 ∷ kept s (p + 1) e) ≡ cond b (kept s (p + 1) m) (getD s p 0 ∷ kept s (p + 1) m) ++ kept s m e
@@ -195,33 +219,25 @@ kept-append s p m e i h k l = by (m - p) p i (omega arith)
         both false e = ap (λ (l : List ℕ). getD s p 0 ∷ l) e
 
 -- their inserted bytes together
-pub count-append : (s : List ℕ) (p m e : ℕ) → 1 ≤ p → p ≤ m → m ≤ e → e ≤ length s → insCount s p e ≡ insCount s p m + insCount s m e
-count-append s p m e i h k l =
-    omega (arith, kept-length s p e (omega arith) l, kept-length s p m h (omega arith), kept-length s m e k l, length-append (kept s p m) (kept s m e), ap length (kept-append s p m e i h k l))
+pub count-append : (s : List ℕ) (p m e : ℕ) → p ≤ m → m ≤ e → e ≤ length s → insCount s p e ≡ insCount s p m + insCount s m e
+count-append s p m e h k l =
+    omega (arith, kept-length s p e (omega arith) l, kept-length s p m h (omega arith), kept-length s m e k l, length-append (kept s p m) (kept s m e), ap length (kept-append s p m e h k l))
 
 -- Calm stretches: those without inserted bytes
 
 -- what is inside one is another
-pub calm-part : (s : List ℕ) (p e a b : ℕ) → 1 ≤ p → p ≤ a → a ≤ b → b ≤ e → e ≤ length s → insCount s p e ≡ 0 → insCount s a b ≡ 0
-calm-part s p e a b i h k l m z =
-    omega (arith, count-append s p a e i h (omega arith) m, count-append s a b e (omega arith) k l m)
+pub calm-part : (s : List ℕ) (p e a b : ℕ) → p ≤ a → a ≤ b → b ≤ e → e ≤ length s → insCount s p e ≡ 0 → insCount s a b ≡ 0
+calm-part s p e a b h k l m z =
+    omega (arith, count-append s p a e h (omega arith) m, count-append s a b e k l m)
 
 -- two of them that meet or overlap are one
-pub calm-join : (s : List ℕ) (p e a b : ℕ) → 1 ≤ p → p ≤ a → a ≤ b → b ≤ e → e ≤ length s → insCount s p b ≡ 0 → insCount s a e ≡ 0 → insCount s p e ≡ 0
-calm-join s p e a b i h k l m y z =
-    omega (arith, count-append s p a e i h (omega arith) m, count-append s p a b i h k (omega arith))
+pub calm-join : (s : List ℕ) (p e a b : ℕ) → p ≤ a → a ≤ b → b ≤ e → e ≤ length s → insCount s p b ≡ 0 → insCount s a e ≡ 0 → insCount s p e ≡ 0
+calm-join s p e a b h k l m y z =
+    omega (arith, count-append s p a e h (omega arith) m, count-append s p a b h k (omega arith))
 
--- what is behind its first byte (at the place 0 the two bytes before that are the byte itself, which then is no inserted one)
+-- what is behind its first byte
 calm-on : (s : List ℕ) (p e : ℕ) → p < e → e ≤ length s → insCount s p e ≡ 0 → insCount s (p + 1) e ≡ 0
-unfolding insCount insIn
-calm-on s zero e k l z =
-    let f : e - 0 ≡ e - 1 + 1 = omega arith in
-    more (ins (getD s 0 0) (getD s 0 0) (getD s 0 0)) (insIn (getD s 0 0) (getD s 0 0) (part s 1 (e - 1))) (rw (f, part-cons s 0 (e - 1) (omega arith)) at z)
-  where
-    more : (b : Bool) (n : ℕ) → cond b (suc n) n ≡ 0 → n ≡ 0
-    more true n z = absurd (omega arith)
-    more false n z = z
-calm-on s (suc p) e k l z = omega (arith, count-step s (suc p) e (omega arith) k l)
+calm-on s p e k l z = omega (arith, count-step s p e k l)
 
 -- what is behind a place of it, wherever it begins
 pub calm-from : (s : List ℕ) (c p e : ℕ) → c ≤ p → e ≤ length s → insCount s c e ≡ 0 → insCount s p e ≡ 0
@@ -234,7 +250,7 @@ calm-from s c p e h l z = by (p - c) c (omega arith) z
 -- it is kept as it stands
 pub kept-calm : (s : List ℕ) (p e : ℕ) → insCount s p e ≡ 0 → kept s p e ≡ part s p (e - p)
 unfolding kept insCount keep insIn
-kept-calm s p e h = all (getD s (p - 2) 0) (getD s (p - 1) 0) (part s p (e - p)) h
+kept-calm s p e h = all (before s p 2) (before s p 1) (part s p (e - p)) h
   where
     all : (a b : ℕ) (xs : List ℕ) → insIn a b xs ≡ 0 → keep a b xs ≡ xs
     all a b [] h = refl
@@ -260,9 +276,9 @@ flat-more {s} {p} {e} e′ g h i =
 pub flat-join : {s : List ℕ} {p m e : ℕ} → Flat s p m → Flat s m e → Flat s p e
 flat-join {m = m} g h = record { none = λ q k l. either m q (λ i. h .none q i l) (λ i. g .none q k i) }
 
-pub flat-count : {s : List ℕ} {p e : ℕ} → Flat s p e → 1 ≤ p → (m : ℕ) → m ≤ e → m ≤ length s → insCount s p m ≡ 0
-flat-count {s} {p} {e} g i m h l = by (m - p) p i (omega arith) (omega arith)
+pub flat-count : {s : List ℕ} {p e : ℕ} → Flat s p e → (m : ℕ) → m ≤ e → m ≤ length s → insCount s p m ≡ 0
+flat-count {s} {p} {e} g m h l = by (m - p) p (omega arith) (omega arith)
   where
-    by : (n q : ℕ) → 1 ≤ q → p ≤ q → m ≤ q + n → insCount s q m ≡ 0
-    by zero q i k f = count-end s q m (omega arith)
-    by (suc n) q i k f = either m q (λ j. count-end s q m j) (λ j. rw (count-step s q m i j l, g .none q k (omega arith), zero-add (insCount s (q + 1) m)) (by n (q + 1) (omega arith) (omega arith) (omega arith)))
+    by : (n q : ℕ) → p ≤ q → m ≤ q + n → insCount s q m ≡ 0
+    by zero q k f = count-end s q m (omega arith)
+    by (suc n) q k f = either m q (λ j. count-end s q m j) (λ j. rw (count-step s q m j l, g .none q k (omega arith), zero-add (insCount s (q + 1) m)) (by n (q + 1) (omega arith) (omega arith)))

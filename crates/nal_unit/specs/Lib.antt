@@ -21,3 +21,4 @@ pub mod Taking
 pub mod TakingCode
 pub mod ScanCode
 pub mod UnescapeCode
+pub mod Window

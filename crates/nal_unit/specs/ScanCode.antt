@@ -26,7 +26,7 @@ use Rattle.nal_unit.specs.StartCode.{code, next, code-first, next-le, ne
 use Rattle.nal_unit.specs.Scan.{code-at, next-step, trim-zero, trim-last, fault-at}
 use Rattle.nal_unit.specs.Unescape.{over3, faultHere, fault, fault-nil, fault-past}
 use Rattle.nal_unit.specs.Walk.{blank, trim, trimmed}
-use Rattle.nal_unit.specs.Kept.{ins, insAt, insCount, count-end, Flat, flat-none, flat-more, flat-join, flat-count}
+use Rattle.nal_unit.specs.Kept.{ins, insAt, ins-at, insCount, count-end, Flat, flat-none, flat-more, flat-join, flat-count}
 use Rattle.nal_unit.specs.declared.scan.Found.{Found}
 use Rattle.nal_unit.specs.declared.scan.UnitScan.{UnitScan}
 
@@ -83,7 +83,7 @@ fault-test a b c d m h e =
 -- where two bytes are zero and the third is 03 or less, a fault or an inserted byte may stand; elsewhere none does
 pub low-none : (s : List ℕ) (i : ℕ) → i + 3 ≤ length s → getD s (i + 2) 0 < 256
     → eqb (bitOr (bitOr (getD s i 0) (getD s (i + 1) 0)) (bitAnd (getD s (i + 2) 0) 252)) 0 ≡ false → (faultHere (drop i s) ≡ false) × (insAt s (i + 2) ≡ false)
-unfolding insAt ins
+unfolding ins
 low-none s i h b e =
     let x = getD s i 0 in
     let y = getD s (i + 1) 0 in
@@ -92,7 +92,7 @@ low-none s i h b e =
     let two : i + 2 - 2 ≡ i = omega arith in
     let one : i + 2 - 1 ≡ i + 1 = omega arith in
     let l : (eqb x 0 && (eqb y 0 && leb z 3)) ≡ false = sym (or-three x y (bitAnd z 252) ∙ ap (λ (p : Bool). eqb x 0 && (eqb y 0 && p)) (high-zero z b)) ∙ e in
-    (fault-at s i h ∙ by (eqb x 0) (eqb y 0) (leb z 3) (leb z 2 || (eqb z 3 && leb 4 w)) (none z w) l, rw (two, one) (by (eqb x 0) (eqb y 0) (leb z 3) (eqb z 3) (other z) l))
+    (fault-at s i h ∙ by (eqb x 0) (eqb y 0) (leb z 3) (leb z 2 || (eqb z 3 && leb 4 w)) (none z w) l, rw (ins-at s (i + 2) (omega arith), two, one) (by (eqb x 0) (eqb y 0) (leb z 3) (eqb z 3) (other z) l))
   where
     none : (c d : ℕ) → leb c 3 ≡ false → (leb c 2 || (eqb c 3 && leb 4 d)) ≡ false
     none c d f = let l = leb-false c 3 f in rw (lt-leb c 2 (omega arith), ne-eqb c 3 (λ e. omega arith)) refl
@@ -231,11 +231,11 @@ seek-past {s} {from} {i} {c} g h f =
 -- at a fault, and at the end
 pub seek-found : {s : List ℕ} {from i c : ℕ} → Seeking s from i c → faultHere (drop i s) ≡ true → Sought s from (record { fault = i; calm = c })
 seek-found {s} {from} {i} {c} g f =
-    record { fault = omega (arith, g .first, first-here (drop i s) f); calm = λ e h l. flat-count (g .flat) (g .low) e h l }
+    record { fault = omega (arith, g .first, first-here (drop i s) f); calm = λ e h l. flat-count (g .flat) e h l }
 
 pub seek-end : {s : List ℕ} {from i c : ℕ} → Seeking s from i c → length s < i + 3 → Sought s from (record { fault = length s; calm = c })
 seek-end {s} {from} {i} {c} g h =
-    record { fault = omega (arith, g .first, first-short s i (g .within) h); calm = λ e k l. flat-count (g .flat) (g .low) e (omega arith) l }
+    record { fault = omega (arith, g .first, first-short s i (g .within) h); calm = λ e k l. flat-count (g .flat) e (omega arith) l }
 
 -- what a search from a place that was reached finds
 pub seek-on : {s : List ℕ} {from i c : ℕ} {r : Found} → Seeking s from i c → Sought s i r → Sought s from r

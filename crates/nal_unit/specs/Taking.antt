@@ -4,21 +4,23 @@
 --     Took s p e n d a d′ r    those were written at the place a of a buffer that held d and holds d′, and r is a place behind them
 --     Stands s e X n p         p is the place of the byte n of the payload X: what a reader that knows X keeps of its place
 --     pass-stretch             a stretch that keeps v; took-stretch, written as v; pass-calm, took-calm, where no byte of it is inserted; pass-zeros
+--     zeroPairs s p n          the 3 * n bytes from p on are n pairs of zeros, an inserted byte in each; behindZeros: the place behind n bytes that stand so, else p
 --     stands-start             the place behind a unit's header; stands-pass, stands-took, stands-stretch, stands-calm from there on
 -- Assumes nothing.
 use mathlib.Core.Path.{_≡_, refl, sym, ap, _∙_}
 use mathlib.Core.List.{List, _∷_, _++_}
-use mathlib.Core.Bool.{true}
-use Prim.Native.Nat.{ℕ, _+_, _-_, _≤_, _<_}
+use mathlib.Core.Bool.{Bool, true, cond, _&&_}
+use Prim.Native.Nat.{ℕ, _+_, _-_, _*_, _/_, _≤_, _<_}
 use native.Mathlib.Nat.{add-zero}
 use native.Mathlib.Omega.{arith}
-use lib.Dec.{eqb}
+use lib.Dec.{leb, eqb}
 use lib.ListN.{length, take, drop, getD, set, replicate, length-drop, length-replicate}
 use lib.Seq.{take-add, take-at, drop-at, drop-drop, length-take-le, getD-drop}
 use borrow.Author.Tests.{eqb-true, eq-eqb}
 use Rattle.lists.specs.Fill.{splice, splice-none, set-splice, splice-splice}
+use Rattle.lists.specs.Flag.{every}
 use Rattle.lists.specs.Part.{part, part-length}
-use Rattle.nal_unit.specs.Kept.{kept, insCount, kept-un, kept-append, kept-length, kept-calm, calm-part, calm-from}
+use Rattle.nal_unit.specs.Kept.{insAt, kept, insCount, kept-un, kept-append, kept-length, kept-calm, calm-part, calm-from}
 use Rattle.nal_unit.specs.Unescape.{un}
 
 -- The next byte
@@ -50,7 +52,7 @@ pass-more {s} {p} {e} {n} {q} {m} {r} g h =
 
 -- a stretch that keeps v, and what is kept behind it
 kept-split : (s : List ℕ) (p e m : ℕ) (v : List ℕ) → 1 ≤ p → p ≤ m → m ≤ e → e ≤ length s → kept s p m ≡ v → kept s p e ≡ v ++ kept s m e
-kept-split s p e m v i h k l f = kept-append s p m e i h k l ∙ ap (λ (x : List ℕ). x ++ kept s m e) f
+kept-split s p e m v i h k l f = kept-append s p m e h k l ∙ ap (λ (x : List ℕ). x ++ kept s m e) f
 
 pub pass-stretch : {s : List ℕ} (p e m n : ℕ) (v : List ℕ) → 1 ≤ p → p ≤ m → m ≤ e → e ≤ length s → kept s p m ≡ v → length v ≡ n → Passed s p e n m
 pass-stretch {s} p e m n v i h k l f w =
@@ -101,7 +103,7 @@ took-stretch {s} p e m n v i h k l f w g =
 pub kept-flat : (s : List ℕ) (p m n : ℕ) → 1 ≤ p → n ≤ m → p + m ≤ length s → eqb (insCount s p (p + m)) 0 ≡ true → kept s p (p + n) ≡ part s p n
 kept-flat s p m n i h l t =
     let w : p + n - p ≡ n = omega arith in
-    let z = calm-part s p (p + m) p (p + n) i (omega arith) (omega arith) (omega arith) l (eqb-true (insCount s p (p + m)) 0 t) in
+    let z = calm-part s p (p + m) p (p + n) (omega arith) (omega arith) (omega arith) l (eqb-true (insCount s p (p + m)) 0 t) in
     kept-calm s p (p + n) z ∙ ap (λ (k : ℕ). part s p k) w
 
 -- n calm bytes; they are calm where all are from a place c on
@@ -110,7 +112,7 @@ pass-calm {s} p e n i h l t =
     pass-stretch p e (p + n) n (part s p n) i (omega arith) h l (kept-flat s p n n i (omega arith) (omega arith) t) (part-length s p n (omega arith))
 
 pub calm-behind : (s : List ℕ) (c p e n : ℕ) → 1 ≤ p → c ≤ p → p + n ≤ e → e ≤ length s → insCount s c e ≡ 0 → eqb (insCount s p (p + n)) 0 ≡ true
-calm-behind s c p e n i h k l z = eq-eqb (insCount s p (p + n)) 0 (calm-part s p e p (p + n) i (omega arith) (omega arith) k l (calm-from s c p e h l z))
+calm-behind s c p e n i h k l z = eq-eqb (insCount s p (p + n)) 0 (calm-part s p e p (p + n) (omega arith) (omega arith) k l (calm-from s c p e h l z))
 
 -- a row of n bytes, of any width, where m bytes are calm
 pub took-calm : {s : List ℕ} {d : List ℕ} {a : ℕ} {d′ : List ℕ} (p e m n : ℕ) → 1 ≤ p → n ≤ m → p + m ≤ e → e ≤ length s → eqb (insCount s p (p + m)) 0 ≡ true
@@ -162,3 +164,29 @@ stands-calm {s} {e} {X} {k} {p} m n g w h t =
     let l : e ≤ length s = g .inside in
     let c = kept-flat s p m n (omega arith) w (omega arith) t in
     stands-stretch (p + n) n (part s p n) g (omega arith) (omega arith) c (part-length s p n (omega arith))
+
+-- Zeros in pairs
+
+-- the three bytes from p on are two zeros of payload and an inserted byte: this is the first of them, and zeros follow it; or the second, and a zero
+-- follows it; or the third. The bytes before an inserted one are zeros.
+unfoldable pub zeroPair : List ℕ → ℕ → Bool
+zeroPair s p =
+    cond (insAt s p) (eqb (getD s (p + 1) 0) 0 && eqb (getD s (p + 2) 0) 0)
+    (cond (insAt s (p + 1)) (eqb (getD s (p + 2) 0) 0)
+    (insAt s (p + 2)))
+
+-- the byte at q is as the one three further on
+unfoldable pub alike : List ℕ → ℕ → Bool
+alike s q = eqb (getD s q 0) (getD s (q + 3) 0)
+
+-- the 3 * n bytes from p on are n pairs of zeros, an inserted byte in each, in all of them at the same place
+unfoldable pub zeroPairs : List ℕ → ℕ → ℕ → Bool
+zeroPairs s p n = zeroPair s p && every (alike s) p (3 * (n - 1))
+
+-- the payload's next n bytes stand before e as such pairs
+unfoldable pub zerosIn : List ℕ → ℕ → ℕ → ℕ → Bool
+zerosIn s p e n = leb 1 (n / 2) && (eqb (2 * (n / 2)) n && (leb (3 * (n / 2)) (e - p) && zeroPairs s p (n / 2)))
+
+-- the place behind them; p where they don't
+unfoldable pub behindZeros : List ℕ → ℕ → ℕ → ℕ → ℕ
+behindZeros s p e n = cond (zerosIn s p e n) (p + 3 * (n / 2)) p

@@ -26,11 +26,11 @@ unescapes-as v f g h = record { bytes = rw f g; place = rw f h }
 
 -- an inserted byte holds nothing, and another itself
 pub kept-mark : (s : List ℕ) (p : ℕ) → 2 ≤ p → p < length s → insAt s p ≡ true → kept s p (p + 1) ≡ []
-kept-mark s p i h t = kept-more s p (p + 1) (omega arith) (omega arith) (omega arith) t ∙ kept-end s (p + 1) (p + 1) (omega arith)
+kept-mark s p i h t = kept-more s p (p + 1) (omega arith) (omega arith) t ∙ kept-end s (p + 1) (p + 1) (omega arith)
 
 pub kept-byte : (s : List ℕ) (p : ℕ) → 2 ≤ p → p < length s → insAt s p ≡ false → kept s p (p + 1) ≡ getD s p 0 ∷ []
 kept-byte s p i h t =
-    kept-plain s p (p + 1) (omega arith) (omega arith) (omega arith) t ∙ ap (λ (l : List ℕ). getD s p 0 ∷ l) (kept-end s (p + 1) (p + 1) (omega arith))
+    kept-plain s p (p + 1) (omega arith) (omega arith) t ∙ ap (λ (l : List ℕ). getD s p 0 ∷ l) (kept-end s (p + 1) (p + 1) (omega arith))
 
 -- A stretch written part by part, from the place a on of a buffer that held d: it is written up to the place q, and b is the place behind.
 pub record Unescaping (s : List ℕ) (p e : ℕ) (d : List ℕ) (a : ℕ) (out : List ℕ) (b q : ℕ) : Type 0 where
@@ -46,14 +46,14 @@ unescaping-start s p e d a i h l r = record { writing = start-at d a (kept s p e
 -- the part up to m has room
 pub unescaping-room : {s : List ℕ} {p e : ℕ} {d : List ℕ} {a : ℕ} {out : List ℕ} {b q : ℕ} (m : ℕ) → Unescaping s p e d a out b q → q ≤ m → m ≤ e → b + length (kept s q m) ≤ length out
 unescaping-room {s} {p} {e} {d} {a} {out} {b} {q} m g h k =
-    puts-room (kept s q m) (kept s m e) (rw (kept-append s q m e (omega arith) h k (g .inside)) at (g .writing))
+    puts-room (kept s q m) (kept s m e) (rw (kept-append s q m e h k (g .inside)) at (g .writing))
 
 -- and is written
 pub unescaping-turn : {s : List ℕ} {p e : ℕ} {d : List ℕ} {a : ℕ} {out : List ℕ} {b q m : ℕ} {out′ : List ℕ} {b′ : ℕ} → Unescaping s p e d a out b q → Unescapes s q m out b out′ b′
     → q ≤ m → m ≤ e → Unescaping s p e d a out′ b′ m
 unescaping-turn {s} {p} {e} {d} {a} {out} {b} {q} {m} g t h k =
     record {
-      writing = rw (t .bytes, t .place) (puts (kept s q m) (kept s m e) (rw (kept-append s q m e (omega arith) h k (g .inside)) at (g .writing)));
+      writing = rw (t .bytes, t .place) (puts (kept s q m) (kept s m e) (rw (kept-append s q m e h k (g .inside)) at (g .writing)));
       from = g .from;
       low = omega arith;
       high = k;

@@ -2,7 +2,7 @@
 // exactly if it is 03 and the two bytes before it are 00, and a unit's header is not 0. Each function here looks at the stretch from the place p up to e,
 // the unit's end, and none at a byte before p - 2. What is public is a leaf for proved callers.
 ghost use mathlib.Core.Path.{_≡_};
-ghost use mathlib.Core.Bool.{true, cond};
+ghost use mathlib.Core.Bool.{cond};
 ghost use Prim.Native.Nat.{_+_, _-_, _*_, _≤_, _<_};
 ghost use lib.Dec.{eqb};
 ghost use lib.ListN.{length, drop, getD, replicate};
@@ -10,8 +10,7 @@ ghost use Rattle.lists.specs.Fill.{splice};
 ghost use Rattle.lists.specs.Part.{part};
 ghost use Rattle.nal_unit.specs.Unescape.{un};
 ghost use Rattle.nal_unit.specs.Kept.{insAt, kept, insCount};
-ghost use Rattle.nal_unit.specs.Taking.{Next, Passed, Took};
-ghost use Rattle.nal_unit.specs.TakingCode.{Pair};
+ghost use Rattle.nal_unit.specs.Taking.{Next, Passed, Took, zeroPair, zeroPairs, behindZeros};
 use crate::rows;
 
 // Whether the byte at the place p is an inserted one.
@@ -23,7 +22,7 @@ pub fn inserted_at(s: &[u8], p: usize) -> bool
 }
 
 // The place of the payload's next byte. Two inserted bytes never stand side by side.
-pub fn next_at(s: &[u8], p: usize, e: usize) -> usize
+fn next_at(s: &[u8], p: usize, e: usize) -> usize
     requires { ⌜ (2 ≤ p) × (e ≤ length (now s)) ⌝ }
     requires { ⌜ 0 < length (kept (now s) p e) ⌝ }
     ensures { λ r. ⌜ Next (now (s .entry)) p e r ⌝ }
@@ -180,7 +179,7 @@ pub fn skip(s: &[u8], p: usize, e: usize, n: usize) -> usize
 // Whether the three bytes from the place p on are two zeros of payload and an inserted byte.
 fn pair(s: &[u8], p: usize) -> bool
     requires { ⌜ (2 ≤ p) × (p + 3 ≤ length (now s)) ⌝ }
-    ensures { λ r. ⌜ (r ≡ true → Pair (now (s .entry)) p) ⌝ }
+    ensures { λ r. ⌜ r ≡ zeroPair (now (s .entry)) p ⌝ }
 {
     if inserted_at(s, p) {
         return s[p + 1] | s[p + 2] == 0;
@@ -191,10 +190,10 @@ fn pair(s: &[u8], p: usize) -> bool
     inserted_at(s, p + 2)
 }
 
-// Whether the 3 * n bytes from the place p on are n pairs of zeros of payload, an inserted byte in each.
+// Whether the 3 * n bytes from the place p on are n pairs of zeros of payload, an inserted byte in each, in all at the same place.
 pub fn pairs(s: &[u8], p: usize, n: usize) -> bool
     requires { ⌜ (2 ≤ p) × (1 ≤ n) × (p + 3 * n ≤ length (now s)) ⌝ }
-    ensures { λ r. ⌜ (r ≡ true → kept (now (s .entry)) p (p + 3 * n) ≡ replicate (2 * n) 0) ⌝ }
+    ensures { λ r. ⌜ r ≡ zeroPairs (now (s .entry)) p n ⌝ }
 {
     if !pair(s, p) {
         return false;
@@ -211,11 +210,11 @@ pub fn pairs(s: &[u8], p: usize, n: usize) -> bool
     f == 0
 }
 
-// A place behind the payload's next n bytes where these are found to be zeros in pairs, an inserted byte in each; the place p where they are not.
+// The place behind the payload's next n bytes where these are zeros in such pairs; the place p where they are not.
 pub fn zeros(s: &[u8], p: usize, e: usize, n: usize) -> usize
     requires { ⌜ (2 ≤ p) × (p ≤ e) × (e ≤ length (now s)) ⌝ }
     requires { ⌜ n ≤ length (kept (now s) p e) ⌝ }
-    ensures { λ r. ⌜ (p < r → (kept (now (s .entry)) p r ≡ replicate n 0) × (r ≤ e)) ⌝ }
+    ensures { λ r. ⌜ r ≡ behindZeros (now (s .entry)) p e n ⌝ }
 {
     let m = n / 2;
     if m > 0 {
@@ -289,7 +288,7 @@ fn take_marked(s: &[u8], p: usize, e: usize, n: usize, out: &mut [u8], at: usize
 
 // Takes a row of 8 bytes of the payload to the place `at` of the output, and answers a place behind them. Here and below the test looks at 16 bytes at a
 // time, one vector: at some behind a narrower row too, and at some of a wider one twice.
-pub fn take8(s: &[u8], p: usize, e: usize, out: &mut [u8], at: usize) -> usize
+fn take8(s: &[u8], p: usize, e: usize, out: &mut [u8], at: usize) -> usize
     requires { ⌜ (2 ≤ p) × (p ≤ e) × (e ≤ length (now s)) ⌝ }
     requires { ⌜ 8 ≤ length (kept (now s) p e) ⌝ }
     requires { ⌜ at + 8 ≤ length (now out) ⌝ }
@@ -305,7 +304,7 @@ pub fn take8(s: &[u8], p: usize, e: usize, out: &mut [u8], at: usize) -> usize
 }
 
 // Takes a row of 12 bytes of the payload to the place `at` of the output, and answers a place behind them.
-pub fn take12(s: &[u8], p: usize, e: usize, out: &mut [u8], at: usize) -> usize
+fn take12(s: &[u8], p: usize, e: usize, out: &mut [u8], at: usize) -> usize
     requires { ⌜ (2 ≤ p) × (p ≤ e) × (e ≤ length (now s)) ⌝ }
     requires { ⌜ 12 ≤ length (kept (now s) p e) ⌝ }
     requires { ⌜ at + 12 ≤ length (now out) ⌝ }
@@ -321,7 +320,7 @@ pub fn take12(s: &[u8], p: usize, e: usize, out: &mut [u8], at: usize) -> usize
 }
 
 // Takes a row of 16 bytes of the payload to the place `at` of the output, and answers a place behind them.
-pub fn take16(s: &[u8], p: usize, e: usize, out: &mut [u8], at: usize) -> usize
+fn take16(s: &[u8], p: usize, e: usize, out: &mut [u8], at: usize) -> usize
     requires { ⌜ (2 ≤ p) × (p ≤ e) × (e ≤ length (now s)) ⌝ }
     requires { ⌜ 16 ≤ length (kept (now s) p e) ⌝ }
     requires { ⌜ at + 16 ≤ length (now out) ⌝ }
@@ -335,7 +334,7 @@ pub fn take16(s: &[u8], p: usize, e: usize, out: &mut [u8], at: usize) -> usize
 }
 
 // Takes a row of 24 bytes of the payload to the place `at` of the output, and answers a place behind them.
-pub fn take24(s: &[u8], p: usize, e: usize, out: &mut [u8], at: usize) -> usize
+fn take24(s: &[u8], p: usize, e: usize, out: &mut [u8], at: usize) -> usize
     requires { ⌜ (2 ≤ p) × (p ≤ e) × (e ≤ length (now s)) ⌝ }
     requires { ⌜ 24 ≤ length (kept (now s) p e) ⌝ }
     requires { ⌜ at + 24 ≤ length (now out) ⌝ }

@@ -1,6 +1,7 @@
 -- What the public calls answer.
 --     Holds r p       the answer r of a call that writes a payload holds the bytes p and nothing else (holds-same: so it is known)
---     spsRead         what the answer of a call that reads a sequence parameter set says; none is refusal 14 of paper 01 (sps-read-same: so it is known)
+--     spsRead         what the answer of a call that reads a sequence parameter set says (sps-read-same: so it is known)
+--     spsNumber       its number: 0, or refusal 14 of paper 01, which is given exactly where none is read (sps-refused)
 -- Assumes nothing.
 use mathlib.Core.Path.{_≡_, refl, sym, ap, _∙_}
 use mathlib.Core.List.{List, _++_}
@@ -39,6 +40,16 @@ holds-same r s p a b =
 abbrev pub spsRead : SpsRead → Option Sequence
 spsRead (Sps s) = some (sequenceOf s)
 spsRead NotForm = none
+
+-- its number
+abbrev pub spsNumber : SpsRead → ℕ
+spsNumber (Sps s) = 0
+spsNumber NotForm = 14
+
+-- 14 is given exactly where none was read
+pub sps-refused : (a : SpsRead) (o : Option Sequence) → spsRead a ≡ o → (spsNumber a ≡ 14 → o ≡ none) × (o ≡ none → spsNumber a ≡ 14)
+sps-refused (Sps s) o e = (λ z. absurd (omega arith), λ n. let w : some (sequenceOf s) ≡ none = e ∙ n in let z : _≡_ {A = ℕ} 0 1 = cc in absurd (omega arith))
+sps-refused NotForm o e = (λ z. sym e, λ n. refl)
 
 -- one answer says one thing
 pub sps-read-same : (a b : SpsRead) → spsRead a ≡ spsRead b → a ≡ b

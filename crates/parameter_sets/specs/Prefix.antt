@@ -1,5 +1,9 @@
--- No strict prefix of a sequence parameter set is one: what would be read of the prefix is read of the whole too, so it would be the whole.
--- Likewise two accepted sizes with one payload are one size. Assumes nothing.
+-- Reading is exact, and no strict prefix of a sequence parameter set is one.
+--     IsSps level p q    the bytes p are the payload of the sequence parameter set of q, a size and kind that is accepted
+--     sps-exact          p is read as q exactly if they are; sps-never: p is read as none exactly if they are it of no size and kind
+--     sps-one            two accepted sizes with one payload are one size
+--     sps-prefix         what would be read of a prefix is read of the whole too, so it would be the whole
+-- Assumes nothing.
 use mathlib.Core.Path.{_≡_, refl, sym, ap, _∙_}
 use mathlib.Core.List.{List}
 use mathlib.Core.Bool.{Bool, true, false, cond}
@@ -46,6 +50,40 @@ form-known p = go (eqb (getD p 0 0) 66) (eqb (getD p 0 0) 100) (eqb (getD (bitsO
 pub guessed-form : (p : List ℕ) → guessed p .form ≡ formIn p
 unfolding guessed
 guessed-form p = refl
+
+abbrev pub IsSps : ℕ → List ℕ → Sequence → Type 0
+IsSps level p q = (s : Session) × (q ≡ sequenceOf s) × (accepted q ≡ true) × (p ≡ spsPayload level q)
+
+-- 14 is exact: what is read as a size and kind is its payload, and what is its payload is read as it
+pub sps-exact : (level : ℕ) (p : List ℕ) (q : Sequence) → (readSps level p ≡ some q → IsSps level p q) × (IsSps level p q → readSps level p ≡ some q)
+sps-exact level p q = (is, read)
+  where
+    is : readSps level p ≡ some q → IsSps level p q
+    is e =
+        let f = form-known p in
+        let r = sps-sound level p q e in
+        let k : q .form ≡ formOf (f .0) (f .1) = ap (λ (i : Sequence). i .form) (sym (r .2)) ∙ (guessed-form p ∙ f .2) in
+        let m : q ≡ sequenceOf (record { width = q .width; height = q .height; kind = f .0; depth = f .1 }) = rw (← k) refl in
+        (record { width = q .width; height = q .height; kind = f .0; depth = f .1 }, m, r .0, r .1)
+
+    read : IsSps level p q → readSps level p ≡ some q
+    read w =
+        let t : accepted (sequenceOf (w .0)) ≡ true = sym (ap accepted (w .1)) ∙ w .2 in
+        ap (readSps level) (w .3 ∙ ap (spsPayload level) (w .1)) ∙ (sps-whole level (w .0) t ∙ ap some (sym (w .1)))
+
+-- and what is none is no size's
+pub sps-never : (level : ℕ) (p : List ℕ) → (readSps level p ≡ none → (q : Sequence) → IsSps level p q → ⊥) × (((q : Sequence) → IsSps level p q → ⊥) → readSps level p ≡ none)
+sps-never level p = (never, λ n. by (readSps level p) refl n)
+  where
+    never : readSps level p ≡ none → (q : Sequence) → IsSps level p q → ⊥
+    never e q w =
+        let r : none ≡ some q = sym e ∙ sps-exact level p q .1 w in
+        let z : _≡_ {A = ℕ} 0 1 = cc in
+        omega arith
+
+    by : (o : Option Sequence) → readSps level p ≡ o → ((q : Sequence) → IsSps level p q → ⊥) → readSps level p ≡ none
+    by none e n = e
+    by (some q) e n = absurd (n q (sps-exact level p q .0 e))
 
 -- no strict prefix of a form is a form
 pub sps-prefix : (level : ℕ) (s : Session) (j : ℕ) → accepted (sequenceOf s) ≡ true → j < length (spsPayload level (sequenceOf s))

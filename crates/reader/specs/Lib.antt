@@ -5,3 +5,5 @@ pub mod Samples
 pub mod Read
 pub mod ReadCode
 pub mod Counted
+pub mod Enough
+pub mod Exact

@@ -4,3 +4,4 @@ pub mod Code
 pub mod Reading
 pub mod ReadingCode
 pub mod Room
+pub mod Differ

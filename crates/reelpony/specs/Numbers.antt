@@ -2,8 +2,8 @@
 --     colourKnown, depthKnown     a colour is 0 (mono) or 1 (4:2:0), a depth 8 or 12
 --     known                       what a call is given can be looked at: its colour, and the depths of the planes that its kind has. Else the answer is 99
 --     shotOf                      the picture of a call
---     heldOf                      the session that eight numbers say: width, height, colour, depth. Numbers that no call leaves say a session of no size, which no
---                                 picture that passes 1 to 5 has
+--     heldOf                      the session that eight numbers say: width, height, colour, depth, whoever wrote them; the others are not looked at. Where the
+--                                 third is no colour or the fourth no depth, a session of no size, which no picture that passes 1 to 5 has
 --     wordsOf, wordsAfter         the eight numbers of a session; those that an answer leaves
 --     startNumber ..              what a start call answers and leaves, where b says whether its numbers are known; nextNumber .. the same of a next call
 -- Assumes nothing.

@@ -10,3 +10,5 @@ pub mod Picture
 pub mod Laid
 pub mod Pieces
 pub mod Macroblocks
+pub mod Sample
+pub mod Exact

@@ -98,11 +98,11 @@ module _ (q : Sequence) (L : Lends) (g : Fine q) (w : Whole q L) where
   abbrev f : Form
   f = q .form
 
-  rows : (p : ℕ) → p < planes f → Rows (picWidthInMbs q) (frameHeightInMbs q) (planeIn f p (lendAt L p))
+  pub rows : (p : ℕ) → p < planes f → Rows (picWidthInMbs q) (frameHeightInMbs q) (planeIn f p (lendAt L p))
   rows p l = lent-rows (lendAt L p .bytes) (lendAt L p .stride) (blockRowBytes f p) (blockHeight f p) (picWidthInMbs q) (frameHeightInMbs q) (w .across p l) (w .down p l)
 
   -- each plane has its rows
-  good : Good (picWidthInMbs q) (frameHeightInMbs q) (planesIn f L)
+  pub good : Good (picWidthInMbs q) (frameHeightInMbs q) (planesIn f L)
   unfolding planesIn planes
   good = go (mono f) refl
     where
@@ -116,7 +116,7 @@ module _ (q : Sequence) (L : Lends) (g : Fine q) (w : Whole q L) where
   no-block e p = rw e refl
 
   -- the bytes of a macroblock's samples
-  size : mbSize (planesIn f L) ≡ mbBytes f
+  pub size : mbSize (planesIn f L) ≡ mbBytes f
   unfolding planesIn mbSize blockBytes
   size = go (mono f) refl ∙ sym (g .known .mb-blocks)
     where

@@ -3,7 +3,7 @@
 --     cutWord i r     the answer where the cut leaves r bytes of the frame of unit i
 --     broken-said     so it is
 -- Assumes nothing.
-use mathlib.Core.Path.{_≡_, refl, ap, _∙_}
+use mathlib.Core.Path.{_≡_, refl, ap}
 use mathlib.Core.List.{List, [], _∷_, _++_, map}
 use mathlib.Core.Bool.{Bool, true, false, cond}
 use mathlib.Core.Option.{none, some}
@@ -15,17 +15,19 @@ use borrow.Author.Tests.{le-leb, lt-leb, le-ltb, ne-eqb}
 use Rattle.lists.specs.Test.{either}
 use Rattle.nal_unit.specs.Walk.{trim}
 use Rattle.nal_unit.specs.Calls.{Verdict, said}
-use Rattle.nal_unit.specs.Frame.{heldBy, held-full}
+use Rattle.nal_unit.specs.Frame.{heldBy}
 use Rattle.nal_unit.specs.Cut.{tell, Moves}
 use Rattle.ycbcr_image.specs.declared.Session.{Session}
 use Rattle.ycbcr_image.specs.Sizes.{Sequence}
 use Rattle.ycbcr_image.specs.Refusals.{sessionOf}
 use Rattle.encoder.specs.Units.{spsUnit, ppsUnit, pictureUnit}
 use Rattle.encoder.specs.Shot.{Shot, imageOf, lendsOf, sequenceIn, shot-whole}
-use Rattle.reader.specs.Judge.{Held, nothing, Word, refused, keep, judge}
-use Rattle.take.specs.Judged.{having, judged-sps, judged-pps, Enough}
+use Rattle.reader.specs.Judge.{Held, nothing, Word, refused, keep}
+use Rattle.reader.specs.Read.{planeLength}
+use Rattle.reader.specs.Enough.{plain}
+use Rattle.take.specs.Judged.{having, judged-sps}
 use Rattle.take.specs.Take.{Take, Frames, frames, Framed, sizeOf, unitsOf, pictureUnits}
-use Rattle.take.specs.Reading.{fits, full, sizes}
+use Rattle.take.specs.Reading.{fits, sizes, sets-held}
 use Rattle.take.specs.Cut.{cut-sps, cut-pps, cut-picture, cut-bare}
 
 unfoldable pub cutWord : ℕ → ℕ → List Word
@@ -40,71 +42,64 @@ picture-in q [] (k ∷ K) v ws f e = let z : _≡_ {A = ℕ} 0 1 = cc in absurd 
 picture-in q (s ∷ ss) [] v ws f e = (s, f .0, cc)
 picture-in q (s ∷ ss) (k ∷ K) v ws f e = picture-in q ss K v ws (f .1) (cc)
 
-module _ (room : ℕ → ℕ) (T : Take) (n : Enough room (sizeOf T)) where
+module _ (T : Take) where
   abbrev q : Sequence
   q = sizeOf T
 
   abbrev z : Session
   z = sessionOf (imageOf (T .first))
 
-  held-none : heldBy (judge room) nothing [] ≡ nothing
+  held-none : heldBy plain nothing [] ≡ nothing
   unfolding heldBy
   held-none = refl
 
-  held-sps : heldBy (judge room) nothing (spsUnit q ∷ []) ≡ having q false
+  held-sps : heldBy plain nothing (spsUnit q ∷ []) ≡ having q false
   unfolding heldBy
-  held-sps = ap (λ (v : Verdict Held Word). v .held) (judged-sps room z (sizes room T n))
-
-  held-more : (K : List (List ℕ)) → heldBy (judge room) nothing (spsUnit q ∷ ppsUnit ∷ K) ≡ having q true
-  unfolding heldBy
-  held-more K =
-      ap (λ (v : Verdict Held Word). heldBy (judge room) (judge room (v .held) ppsUnit .held) K) (judged-sps room z (sizes room T n))
-      ∙ (ap (λ (v : Verdict Held Word). heldBy (judge room) (v .held) K) (judged-pps room q (fits room T n))
-      ∙ held-full (judge room) (having q true) K (full room q (fits room T n) n))
+  held-sps = ap (λ (v : Verdict Held Word). v .held) (judged-sps (planeLength nothing) z (sizes T))
 
   -- the cut falls behind the header byte of the unit behind K
   behind-header : (K : List (List ℕ)) (v : List ℕ) (ws : List (List ℕ)) (m : ℕ) → unitsOf T ≡ K ++ (v ∷ ws) → suc m < length v
-      → judge room (heldBy (judge room) nothing K) (trim (take (suc m) v)) ≡ keep (heldBy (judge room) nothing K) (refused (cond (ltb (length K) 2) 14 17))
+      → plain (heldBy plain nothing K) (trim (take (suc m) v)) ≡ keep (heldBy plain nothing K) (refused (cond (ltb (length K) 2) 14 17))
   behind-header [] v ws m e l =
       let u : v ≡ spsUnit q = cc in
-      rw (held-none, u) (cut-sps room z m (sizes room T n) (rw u at l))
+      rw (held-none, u) (cut-sps (planeLength nothing) z m (sizes T) (rw u at l))
   behind-header (a ∷ []) v ws m e l =
       let t : a ≡ spsUnit q = cc in
       let u : v ≡ ppsUnit = cc in
-      rw (t, u, held-sps) (cut-pps room q m (rw u at l))
+      rw (t, u, held-sps) (cut-pps (planeLength (having q false)) q m (rw u at l))
   behind-header (a ∷ b ∷ K) v ws m e l =
       let t : a ≡ spsUnit q = cc in
       let u : b ≡ ppsUnit = cc in
       let r : pictureUnits (T .first ∷ T .others) ≡ K ++ (v ∷ ws) = cc in
       let p = picture-in q (T .first ∷ T .others) K v ws (frames T) r in
-      rw (le-ltb (suc (suc (length K))) 2 (omega arith)) (rw (t, u, held-more K) (shot (p .0) (p .1) (p .2)))
+      rw (le-ltb (suc (suc (length K))) 2 (omega arith)) (rw (t, u, sets-held T K) (shot (p .0) (p .1) (p .2)))
     where
-      shot : (s : Shot) → Framed q s → v ≡ pictureUnit (sequenceIn s) (lendsOf s) → judge room (having q true) (trim (take (suc m) v)) ≡ keep (having q true) (refused 17)
+      shot : (s : Shot) → Framed q s → v ≡ pictureUnit (sequenceIn s) (lendsOf s) → plain (having q true) (trim (take (suc m) v)) ≡ keep (having q true) (refused 17)
       shot s f y =
           let w = f .size in
-          rw (y, ← w) (cut-picture room (sequenceIn s) (lendsOf s) m (rw w (fits room T n)) (f .pass .fine) (shot-whole s (f .pass)) (rw y at l))
+          rw (y, ← w) (cut-picture (planeLength (having (sequenceIn s) true)) (sequenceIn s) (lendsOf s) m (rw w (fits T)) (f .pass .fine) (shot-whole s (f .pass)) (rw y at l))
 
   -- the cut leaves r bytes of the frame of the unit v behind K
   pub broken-said : (K : List (List ℕ)) (v : List ℕ) (ws : List (List ℕ)) (p r : ℕ) → unitsOf T ≡ K ++ (v ∷ ws) → r < 4 + length v
-      → (Moves (judge room) (heldBy (judge room) nothing K) (cond (leb r 3) none (some (take (r - 4) v))))
-      × (tell (judge room) (heldBy (judge room) nothing K) p (cond (leb r 3) none (some (take (r - 4) v))) ≡ map (said (p + 4)) (cutWord (length K) r))
+      → (Moves plain (heldBy plain nothing K) (cond (leb r 3) none (some (take (r - 4) v))))
+      × (tell plain (heldBy plain nothing K) p (cond (leb r 3) none (some (take (r - 4) v))) ≡ map (said (p + 4)) (cutWord (length K) r))
   unfolding tell cutWord
   broken-said K v ws p r e l = either r 3 few (λ k. either r 4 (bare k) many)
     where
       h : Held
-      h = heldBy (judge room) nothing K
+      h = heldBy plain nothing K
 
       one : (b : Bool) → said (p + 4) (refused (cond b 14 17)) ∷ [] ≡ map (said (p + 4)) (cond b (refused 14 ∷ []) (refused 17 ∷ []))
       one true = refl
       one false = refl
 
-      few : r ≤ 3 → (Moves (judge room) h (cond (leb r 3) none (some (take (r - 4) v)))) × (tell (judge room) h p (cond (leb r 3) none (some (take (r - 4) v))) ≡ map (said (p + 4)) (cutWord (length K) r))
+      few : r ≤ 3 → (Moves plain h (cond (leb r 3) none (some (take (r - 4) v)))) × (tell plain h p (cond (leb r 3) none (some (take (r - 4) v))) ≡ map (said (p + 4)) (cutWord (length K) r))
       few k = rw (le-leb r 3 k) (tt, refl)
 
-      bare : 3 < r → r ≤ 4 → (Moves (judge room) h (cond (leb r 3) none (some (take (r - 4) v)))) × (tell (judge room) h p (cond (leb r 3) none (some (take (r - 4) v))) ≡ map (said (p + 4)) (cutWord (length K) r))
-      bare k m = let i : r ≡ 4 = omega arith in rw i (rw (cut-bare room h) (refl, refl))
+      bare : 3 < r → r ≤ 4 → (Moves plain h (cond (leb r 3) none (some (take (r - 4) v)))) × (tell plain h p (cond (leb r 3) none (some (take (r - 4) v))) ≡ map (said (p + 4)) (cutWord (length K) r))
+      bare k m = let i : r ≡ 4 = omega arith in rw i (rw (cut-bare (planeLength h) h) (refl, refl))
 
-      many : 4 < r → (Moves (judge room) h (cond (leb r 3) none (some (take (r - 4) v)))) × (tell (judge room) h p (cond (leb r 3) none (some (take (r - 4) v))) ≡ map (said (p + 4)) (cutWord (length K) r))
+      many : 4 < r → (Moves plain h (cond (leb r 3) none (some (take (r - 4) v)))) × (tell plain h p (cond (leb r 3) none (some (take (r - 4) v))) ≡ map (said (p + 4)) (cutWord (length K) r))
       many k =
           let i : r - 4 ≡ suc (r - 5) = omega arith in
           let b = behind-header K v ws (r - 5) e (omega arith) in

@@ -1,9 +1,9 @@
 -- What the reader answers about the units that the writer writes: for one accepted call, exactly what was written. Assumes nothing.
-use mathlib.Core.Path.{_≡_, refl, _∙_}
+use mathlib.Core.Path.{_≡_, refl, ap, _∙_}
 use mathlib.Core.List.{List, _∷_}
 use mathlib.Core.Bool.{Bool, true, false}
 use mathlib.Core.Option.{some}
-use Prim.Native.Nat.{ℕ, _≤_, _<_}
+use Prim.Native.Nat.{ℕ, _<_}
 use native.Mathlib.Omega.{arith}
 use lib.ListN.{length}
 use borrow.Author.Tests.{le-ltb}
@@ -17,10 +17,11 @@ use Rattle.parameter_sets.specs.Read.{sps-whole}
 use Rattle.slice.specs.Picture as P
 use Rattle.ycbcr_image.specs.declared.Session.{Session}
 use Rattle.ycbcr_image.specs.Accepted.{Fine}
-use Rattle.ycbcr_image.specs.Sizes.{Sequence, sequenceOf, tightLength}
+use Rattle.ycbcr_image.specs.Sizes.{Sequence, sequenceOf}
 use Rattle.ycbcr_image.specs.Refusals.{accepted}
 use Rattle.encoder.specs.Units.{spsUnit, ppsUnit, pictureUnit}
-use Rattle.reader.specs.Judge.{Held, nothing, Samples, sps, pps, picture, possible, counted, keep, spsVerdict, ppsVerdict, short, formless, pictureVerdict, heldVerdict, unitVerdict, judge}
+use Rattle.reader.specs.Judge.{Held, nothing, Samples, sps, pps, picture, possible, counted, keep, spsVerdict, ppsVerdict, formless, pictureVerdict, heldVerdict, unitVerdict, judge}
+use Rattle.reader.specs.Enough.{Enough, enough-long}
 
 -- what the take's sets leave held
 abbrev pub having : Sequence → Bool → Held
@@ -30,6 +31,10 @@ having q b = record { sps = some q; pps = b }
 pub counted-is : (q : Sequence) (b : Bool) → possible q ≡ true → counted (having q b) ≡ having q b
 unfolding counted
 counted-is q b e = rw e refl
+
+-- and is the size held
+pub held-is : (q : Sequence) (b : Bool) → possible q ≡ true → counted (having q b) .sps ≡ some q
+held-is q b e = ap (λ (h : Held). h .sps) (counted-is q b e)
 
 -- the visible samples of the lent planes
 abbrev pub visibleOf : Sequence → P.Lends → Samples
@@ -66,25 +71,15 @@ module _ (room : ℕ → ℕ) where
   unfolding unitVerdict heldVerdict
   verdict-picture q X e = rw (counted-is q true e) refl
 
-  -- the planes lent are large enough
-  pub record Enough (q : Sequence) : Type 0 where
-    pub y : tightLength q 0 ≤ room 0
-    pub cb : tightLength q 1 ≤ room 1
-    pub cr : tightLength q 2 ≤ room 2
-
-  pub not-short : (q : Sequence) → Enough q → short room q ≡ false
-  unfolding short
-  not-short q n = rw (le-ltb (room 0) (tightLength q 0) (n .y), le-ltb (room 1) (tightLength q 1) (n .cb), le-ltb (room 2) (tightLength q 2) (n .cr)) refl
-
-  accepted-picture : (q : Sequence) (L : P.Lends) → Fine q → P.Whole q L → Enough q → pictureVerdict room (having q true) q (P.pictureOf q L) ≡ keep (having q true) (picture (visibleOf q L))
+  accepted-picture : (q : Sequence) (L : P.Lends) → Fine q → P.Whole q L → Enough room (having q true) → possible q ≡ true → pictureVerdict room (having q true) q (P.pictureOf q L) ≡ keep (having q true) (picture (visibleOf q L))
   unfolding pictureVerdict formless
-  accepted-picture q L g w n =
+  accepted-picture q L g w n e =
       let l = P.picture-length q L g w in
-      rw (le-ltb (length (P.pictureOf q L)) (P.pictureLength q) (omega arith), le-ltb (P.pictureLength q) (length (P.pictureOf q L)) (omega arith), P.picture-right q L g w, not-short q n)
+      rw (le-ltb (length (P.pictureOf q L)) (P.pictureLength q) (omega arith), le-ltb (P.pictureLength q) (length (P.pictureOf q L)) (omega arith), P.picture-right q L g w, enough-long room (having q true) q n (held-is q true e))
       (rw (P.picture-back q L g w 0 (omega arith), P.picture-back q L g w 1 (omega arith), P.picture-back q L g w 2 (omega arith)) refl)
 
-  -- a picture, with both sets held and planes that are large enough: its visible samples
-  pub judged-picture : (q : Sequence) (L : P.Lends) → possible q ≡ true → Fine q → P.Whole q L → Enough q
+  -- a picture, with both sets held and planes that are long enough: its visible samples
+  pub judged-picture : (q : Sequence) (L : P.Lends) → possible q ≡ true → Fine q → P.Whole q L → Enough room (having q true)
       → judge room (having q true) (pictureUnit q L) ≡ keep (having q true) (picture (visibleOf q L))
   unfolding pictureUnit
-  judged-picture q L e g w n = judge-unit (having q true) 0x25 (P.pictureOf q L) (omega arith) ∙ (verdict-picture q (P.pictureOf q L) e ∙ accepted-picture q L g w n)
+  judged-picture q L e g w n = judge-unit (having q true) 0x25 (P.pictureOf q L) (omega arith) ∙ (verdict-picture q (P.pictureOf q L) e ∙ accepted-picture q L g w n e)

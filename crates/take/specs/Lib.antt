@@ -9,3 +9,10 @@ pub mod Host
 pub mod Written
 pub mod Cases
 pub mod OneAnswer
+pub mod Ends
+pub mod Damaged
+pub mod Numbers
+pub mod Exhibit
+pub mod Shams
+pub mod Guard
+pub mod Differ

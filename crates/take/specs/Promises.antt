@@ -1,5 +1,5 @@
--- The promises about a take, for every take, whatever the planes held: what a reader that begins with nothing held, at the first byte, answers, if the planes
--- lent to it are large enough (`Enough`).
+-- The promises about a take, for every take, whatever the planes held: what a reader that begins with nothing held, at the first byte, answers, if each call
+-- lends it planes that are long enough for the size held then (reader, Enough: `plain`).
 --     round-trip     the size and kind, then the picture parameter set, then each picture with its visible samples, in order, then End
 --     cut            the first n bytes alone: the units that are whole within n, then at most one refusal, then End
 --     damage         any stretch behind the first picture's start code is replaced by anything: from each start code wholly behind it, all is read
@@ -24,18 +24,19 @@ use Rattle.nal_unit.specs.Cut.{kept, broken, cut-exact, all, within, told, Move
 use Rattle.nal_unit.specs.Damage.{moved, damage-reads}
 use Rattle.encoder.specs.Shot.{lendsOf}
 use Rattle.encoder.specs.Units.{spsUnit, ppsUnit, pictureUnit}
-use Rattle.reader.specs.Judge.{Held, nothing, Word, judge}
-use Rattle.take.specs.Judged.{having, Enough}
+use Rattle.reader.specs.Judge.{Held, nothing, Word}
+use Rattle.reader.specs.Enough.{plain}
+use Rattle.take.specs.Judged.{having}
 use Rattle.take.specs.Take.{Take, sizeOf, bytesOf, pictureUnits, unitsOf, wordsOf, bytes-units}
 use Rattle.take.specs.Broken.{cutWord, broken-said}
-use Rattle.take.specs.Reading.{listed, fits, full, take-goes, take-said, sets-go, sets-held}
+use Rattle.take.specs.Reading.{listed, fits, full, take-goes, take-said, sets-goes, sets-held}
 
 -- Reading an accepted take from its first byte with nothing held answers its size and kind, its picture parameter set, and each picture with its visible
 -- samples, in order and at their offsets; then End, however often it is asked for.
-pub round-trip : (room : ℕ → ℕ) (T : Take) (k : ℕ) → Enough room (sizeOf T)
-    → answers (judge room) (bytesOf T) (length (unitsOf T) + k) nothing 0 ≡ listed 0 (unitsOf T) (wordsOf T) ++ replicate k ended
-round-trip room T k n =
-    rw (bytes-units T) (reads (judge room) k nothing (unitsOf T) (take-goes room T n) ∙ ap (λ (l : List (Say Word)). l ++ replicate k ended) (take-said room T n 0))
+pub round-trip : (T : Take) (k : ℕ)
+    → answers plain (bytesOf T) (length (unitsOf T) + k) nothing 0 ≡ listed 0 (unitsOf T) (wordsOf T) ++ replicate k ended
+round-trip T k =
+    rw (bytes-units T) (reads plain k nothing (unitsOf T) (take-goes T) ∙ ap (λ (l : List (Say Word)). l ++ replicate k ended) (take-said T 0))
 
 -- ---- a cut
 
@@ -62,41 +63,41 @@ abbrev pub cutSays : ℕ → Take → List (Say Word)
 cutSays n T = cond (leb (length (bytesOf T)) n) [] (map (said (placeBy 0 (kept n (unitsOf T)) + 4)) (cutWord (length (kept n (unitsOf T))) (n - placeBy 0 (kept n (unitsOf T)))))
 
 -- the answers about the units kept, and about the unit that the cut falls in
-record Told (room : ℕ → ℕ) (T : Take) (n : ℕ) : Type 0 where
-  moves : Moves (judge room) (heldBy (judge room) nothing (kept n (unitsOf T))) (broken n (unitsOf T))
-  is : told (judge room) n nothing (unitsOf T) ≡ cutSays n T
-  said : says (judge room) nothing 0 (kept n (unitsOf T)) ≡ listed 0 (kept n (unitsOf T)) (wordsOf T)
+record Told (T : Take) (n : ℕ) : Type 0 where
+  moves : Moves plain (heldBy plain nothing (kept n (unitsOf T))) (broken n (unitsOf T))
+  is : told plain n nothing (unitsOf T) ≡ cutSays n T
+  said : says plain nothing 0 (kept n (unitsOf T)) ≡ listed 0 (kept n (unitsOf T)) (wordsOf T)
 
-cut-told : (room : ℕ → ℕ) (T : Take) (n : ℕ) → Enough room (sizeOf T) → C.Cut n (unitsOf T) (kept n (unitsOf T)) (broken n (unitsOf T)) → Told room T n
+cut-told : (T : Take) (n : ℕ) → C.Cut n (unitsOf T) (kept n (unitsOf T)) (broken n (unitsOf T)) → Told T n
 unfolding C.tell
-cut-told room T n e (all a b c) =
+cut-told T n (all a b c) =
     record {
       moves = rw b tt;
       is = rw (b, le-leb (length (bytesOf T)) n (omega (arith, ap length (bytes-units T)))) refl;
-      said = rw a (take-said room T e 0);
+      said = rw a (take-said T 0);
     }
-cut-told room T n e (within v ws r a b c d) =
+cut-told T n (within v ws r a b c d) =
     let K = kept n (unitsOf T) in
     let p = place-joined 0 K in
-    let s = broken-said room T e K v ws (placeBy 0 K) r a c in
+    let s = broken-said T K v ws (placeBy 0 K) r a c in
     let m : n - placeBy 0 K ≡ r = omega arith in
     let l : n < length (bytesOf T) = omega (arith, ap length (bytes-units T), ap (λ (us : List (List ℕ)). length (joined us [])) a, frame-behind K v ws) in
     record {
       moves = rw d (s .0);
       is = rw (d, lt-leb (length (bytesOf T)) n l, m) (s .1);
-      said = kept-said (judge room) nothing 0 K (v ∷ ws) (wordsOf T) (rw (← a) (take-said room T e 0));
+      said = kept-said plain nothing 0 K (v ∷ ws) (wordsOf T) (rw (← a) (take-said T 0));
     }
 
 -- Cut a take after any byte, n of them left: the reader answers exactly the units that are whole within n, in order; then, exactly if the cut leaves a
 -- whole start code of the next unit, one refusal (11 for a bare start code, 14 in a parameter set, 17 in a picture); then End, however often it is
 -- asked for.
-pub cut : (room : ℕ → ℕ) (T : Take) (n k : ℕ) → Enough room (sizeOf T)
-    → answers (judge room) (take n (bytesOf T)) (length (kept n (unitsOf T)) + (length (cutSays n T) + k)) nothing 0
+pub cut : (T : Take) (n k : ℕ)
+    → answers plain (take n (bytesOf T)) (length (kept n (unitsOf T)) + (length (cutSays n T) + k)) nothing 0
     ≡ listed 0 (kept n (unitsOf T)) (wordsOf T) ++ (cutSays n T ++ replicate k ended)
-cut room T n k e =
+cut T n k =
     let us = unitsOf T in
-    let c = cut-told room T n e (cut-exact n us) in
-    let r = C.cut (judge room) n k nothing us (take-goes room T e) (c .moves) in
+    let c = cut-told T n (cut-exact n us) in
+    let r = C.cut plain n k nothing us (take-goes T) (c .moves) in
     rw (← bytes-units T, c .is, c .said) at r
 
 -- ---- damage
@@ -130,13 +131,13 @@ front T i l =
 -- Replace any stretch of a take behind the first picture's start code, the bytes from i up to j, by anything, m; and take any start code that stands wholly
 -- behind it, at k. The reader, from the first byte with nothing held, arrives there after some calls, n; and from there on it answers, however often it is
 -- called, what it answers there in the undamaged take, with the offsets moved by the change in length.
-pub damage : (room : ℕ → ℕ) (T : Take) (i j k : ℕ) (m : List ℕ) → Enough room (sizeOf T) → pictureCode T ≤ i → i ≤ j → j ≤ k → code (drop k (bytesOf T)) ≡ true
-    → (n : ℕ) × ((c : ℕ) → answers (judge room) (replaced (bytesOf T) i j m) (n + c) nothing 0
-    ≡ answers (judge room) (replaced (bytesOf T) i j m) n nothing 0 ++ map (moved (j - i) (length m)) (answers (judge room) (bytesOf T) c (having (sizeOf T) true) k))
-unfolding replaced
-damage room T i j k m e l a b c =
+pub damage : (T : Take) (i j k : ℕ) (m : List ℕ) → pictureCode T ≤ i → i ≤ j → j ≤ k → code (drop k (bytesOf T)) ≡ true
+    → (n : ℕ) × ((c : ℕ) → answers plain (replaced (bytesOf T) i j m) (n + c) nothing 0
+    ≡ answers plain (replaced (bytesOf T) i j m) n nothing 0 ++ map (moved (j - i) (length m)) (answers plain (bytesOf T) c (having (sizeOf T) true) k))
+unfolding replaced pictureUnits
+damage T i j k m l a b c =
     let s = bytesOf T in
-    let h = sets-held room T e in
+    let h = sets-held T [] in
     let f = front T i l in
     let long : k + 3 ≤ length s = code-fits s k c in
     let t : length (take i s) ≡ i = length-take-le i s (omega arith) in
@@ -147,5 +148,5 @@ damage room T i j k m e l a b c =
     let v : drop i s ≡ part s i (j - i) ++ drop j s = rw x at (part-rest s i (j - i)) in
     let w : take i s ++ (part s i (j - i) ++ drop j s) ≡ s = rw v at (take-append-drop i s) in
     let o : code (drop (k - j) (drop j s)) ≡ true = rw (drop-drop (k - j) j s) (rw y c) in
-    let r = damage-reads (judge room) (spsUnit (sizeOf T) ∷ ppsUnit ∷ []) (take i s) (f .0) (part s i (j - i)) m (drop j s) nothing (k - j) (f .1) (sets-go room T e) (rw h (full room (sizeOf T) (fits room T e) e)) o in
+    let r = damage-reads plain (spsUnit (sizeOf T) ∷ ppsUnit ∷ []) (take i s) (f .0) (part s i (j - i)) m (drop j s) nothing (k - j) (f .1) (sets-goes T [] tt) (rw h (full (sizeOf T) (fits T))) o in
     rw (t, d, w, z, h) at r

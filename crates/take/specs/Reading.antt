@@ -1,4 +1,5 @@
--- Reading a take: with both sets held no unit changes them, the units of a take are met whole, and each is answered with its word. Assumes nothing.
+-- Reading a take with planes that are long enough (reader, Enough: `plain`): with both sets held no unit changes them, the units of a take are met whole, and
+-- each is answered with its word. Assumes nothing.
 use mathlib.Core.Path.{_≡_, refl, ap, _∙_}
 use mathlib.Core.List.{List, [], _∷_}
 use mathlib.Core.Bool.{Bool, true, false, cond}
@@ -10,7 +11,7 @@ use Rattle.lists.specs.Test.{same}
 use Rattle.nal_unit.specs.Unescape.{un, fault}
 use Rattle.nal_unit.specs.Walk.{Whole}
 use Rattle.nal_unit.specs.Calls.{Verdict, Say, said, Full}
-use Rattle.nal_unit.specs.Frame.{Goes, Wholes, says, heldBy, goes-full}
+use Rattle.nal_unit.specs.Frame.{Goes, Wholes, says, heldBy, goes-full, held-full}
 use Rattle.parameter_sets.specs.Sps.{baseLevel}
 use Rattle.parameter_sets.specs.Pps.{ppsPayload}
 use Rattle.parameter_sets.specs.Read.{readSps}
@@ -23,8 +24,10 @@ use Rattle.encoder.specs.Shot.{Shot, imageOf, lendsOf, sequenceIn, shot-whole}
 use Rattle.reader.specs.Judge as J
 use Rattle.reader.specs.Judge.{Held, nothing, Word, sps, picture, refused, possible, session-possible, keep, spsVerdict, ppsVerdict, pictureVerdict, heldVerdict, unitVerdict, judge}
 use Rattle.take.specs.Last.{sps-unit, pps-unit, picture-unit}
-use Rattle.take.specs.Judged.{having, counted-is, judged-sps, judged-pps, judged-picture, Enough, not-short}
-use Rattle.take.specs.Take.{Take, Frames, frames, sizeOf, unitsOf, wordsOf, pictureUnits, pictureWords, samplesOf, Framed, first-framed}
+use Rattle.reader.specs.Read.{planeLength}
+use Rattle.reader.specs.Enough.{plain, enough-own, enough-long}
+use Rattle.take.specs.Judged.{having, counted-is, held-is, judged-sps, judged-pps, judged-picture}
+use Rattle.take.specs.Take.{Take, Frames, frames, sizeOf, setsAnd, unitsOf, wordsOf, pictureUnits, pictureWords, samplesOf, Framed, first-framed}
 
 -- words in order, each with the offset of its unit, where the first unit's frame begins at p
 unfoldable pub listed : ℕ → List (List ℕ) → List Word → List (Say Word)
@@ -32,9 +35,12 @@ listed p [] ws = []
 listed p (u ∷ us) [] = []
 listed p (u ∷ us) (w ∷ ws) = said (p + 4) w ∷ listed (p + 4 + length u) us ws
 
-module _ (room : ℕ → ℕ) (q : Sequence) (e : possible q ≡ true) (n : Enough room q) where
+module _ (q : Sequence) (e : possible q ≡ true) where
   abbrev h : Held
   h = having q true
+
+  abbrev room : ℕ → ℕ
+  room = planeLength h
 
   -- a verdict that keeps what is held and moves on
   record Keeps (v : Verdict Held Word) : Type 0 where
@@ -60,7 +66,7 @@ module _ (room : ℕ → ℕ) (q : Sequence) (e : possible q ≡ true) (n : Enou
   keeps-picture : (X : List ℕ) → Keeps (pictureVerdict room h q X)
   unfolding pictureVerdict
   keeps-picture X =
-      rw (not-short room q n)
+      rw (enough-long room h q (enough-own h) (held-is q true e))
       (keeps-if (ltb (length X) (P.pictureLength q)) (kept (refused 17))
       (keeps-if (J.formless q X) (kept (refused 18)) (kept (picture (J.samplesOf q X)))))
 
@@ -73,8 +79,8 @@ module _ (room : ℕ → ℕ) (q : Sequence) (e : possible q ≡ true) (n : Enou
   keeps [] = kept (refused 11)
   keeps (x ∷ t) = keeps-if (fault (x ∷ t)) (kept (refused 12)) (keeps-unit x (un t))
 
-  -- with both sets held and planes large enough, no unit changes what is held, and no call keeps its place
-  pub full : Full (judge room) h
+  -- with both sets held, no unit changes what is held, and no call keeps its place
+  pub full : Full plain h
   full = record { keeps = λ u. keeps u .holds; moves = λ u. keeps u .moves }
 
   -- pictures of the take's size
@@ -83,24 +89,24 @@ module _ (room : ℕ → ℕ) (q : Sequence) (e : possible q ≡ true) (n : Enou
   pub shot-unit : (s : Shot) → Framed q s → Whole (pictureUnit (sequenceIn s) (lendsOf s))
   shot-unit s f = picture-unit (sequenceIn s) (lendsOf s) (f .pass .fine) (shot-whole s (f .pass))
 
-  shot-word : (s : Shot) → Framed q s → judge room h (pictureUnit (sequenceIn s) (lendsOf s)) ≡ keep h (picture (samplesOf s))
+  shot-word : (s : Shot) → Framed q s → plain h (pictureUnit (sequenceIn s) (lendsOf s)) ≡ keep h (picture (samplesOf s))
   shot-word s f =
       let z = f .size in
-      rw (← z) (judged-picture room (sequenceIn s) (lendsOf s) (rw z e) (f .pass .fine) (shot-whole s (f .pass)) (rw z n))
+      rw (← z) (judged-picture (planeLength (having (sequenceIn s) true)) (sequenceIn s) (lendsOf s) (rw z e) (f .pass .fine) (shot-whole s (f .pass)) (enough-own (having (sequenceIn s) true)))
 
   pub pictures-whole : (ss : List Shot) → Frames q ss → Wholes (pictureUnits ss)
   unfolding pictureUnits
   pictures-whole [] f = tt
   pictures-whole (s ∷ ss) f = (shot-unit s (f .0), pictures-whole ss (f .1))
 
-  pub pictures-said : (p : ℕ) (ss : List Shot) → Frames q ss → says (judge room) h p (pictureUnits ss) ≡ listed p (pictureUnits ss) (pictureWords ss)
+  pub pictures-said : (p : ℕ) (ss : List Shot) → Frames q ss → says plain h p (pictureUnits ss) ≡ listed p (pictureUnits ss) (pictureWords ss)
   unfolding says listed pictureUnits pictureWords
   pictures-said p [] f = refl
   pictures-said p (s ∷ ss) f =
       rw (shot-word s (f .0), pictures-said (p + 4 + length (pictureUnit (sequenceIn s) (lendsOf s))) ss (f .1)) refl
 
 -- the whole take
-module _ (room : ℕ → ℕ) (T : Take) (n : Enough room (sizeOf T)) where
+module _ (T : Take) where
   abbrev q : Sequence
   q = sizeOf T
 
@@ -113,23 +119,29 @@ module _ (room : ℕ → ℕ) (T : Take) (n : Enough room (sizeOf T)) where
   pub fits : possible q ≡ true
   fits = session-possible z sizes
 
-  -- the units of a take are whole
-  pub take-goes : Goes (judge room) nothing (unitsOf T)
-  take-goes =
-      rw (judged-sps room z sizes, judged-pps room q fits)
-      (sps-unit q, refl, (pps-unit, refl, goes-full (judge room) (having q true) (pictureUnits (T .first ∷ T .others)) (full room q fits n) (pictures-whole room q fits n (T .first ∷ T .others) (frames T))))
+  -- the parameter sets and any pictures of its size: the units are whole
+  pub sets-goes : (ss : List Shot) → Frames q ss → Goes plain nothing (setsAnd q ss)
+  sets-goes ss f =
+      rw (judged-sps (planeLength nothing) z sizes, judged-pps (planeLength (having q false)) q fits)
+      (sps-unit q, refl, (pps-unit, refl, goes-full plain (having q true) (pictureUnits ss) (full q fits) (pictures-whole q fits ss f)))
 
-  -- and each is answered with its word, at its offset
-  pub take-said : (p : ℕ) → says (judge room) nothing p (unitsOf T) ≡ listed p (unitsOf T) (wordsOf T)
+  -- each is answered with its word, at its offset
+  pub sets-said : (p : ℕ) (ss : List Shot) → Frames q ss → says plain nothing p (setsAnd q ss) ≡ listed p (setsAnd q ss) (sps q ∷ J.pps ∷ pictureWords ss)
   unfolding says listed
-  take-said p =
-      rw (judged-sps room z sizes, judged-pps room q fits, pictures-said room q fits n (p + 4 + length (spsUnit q) + 4 + length ppsUnit) (T .first ∷ T .others) (frames T)) refl
+  sets-said p ss f =
+      rw (judged-sps (planeLength nothing) z sizes, judged-pps (planeLength (having q false)) q fits, pictures-said q fits (p + 4 + length (spsUnit q) + 4 + length ppsUnit) ss f) refl
 
-  -- the two parameter sets alone
-  pub sets-go : Goes (judge room) nothing (spsUnit q ∷ ppsUnit ∷ [])
-  sets-go = rw (judged-sps room z sizes, judged-pps room q fits) (sps-unit q, refl, (pps-unit, refl, tt))
-
-  pub sets-held : heldBy (judge room) nothing (spsUnit q ∷ ppsUnit ∷ []) ≡ having q true
+  -- and both sets are held behind them, whatever else follows
+  pub sets-held : (us : List (List ℕ)) → heldBy plain nothing (spsUnit q ∷ ppsUnit ∷ us) ≡ having q true
   unfolding heldBy
-  sets-held =
-      ap (λ (v : Verdict Held Word). judge room (v .held) ppsUnit .held) (judged-sps room z sizes) ∙ ap (λ (v : Verdict Held Word). v .held) (judged-pps room q fits)
+  sets-held us =
+      ap (λ (v : Verdict Held Word). heldBy plain (plain (v .held) ppsUnit .held) us) (judged-sps (planeLength nothing) z sizes)
+      ∙ (ap (λ (v : Verdict Held Word). heldBy plain (v .held) us) (judged-pps (planeLength (having q false)) q fits)
+      ∙ held-full plain (having q true) us (full q fits))
+
+  -- all of it
+  pub take-goes : Goes plain nothing (unitsOf T)
+  take-goes = sets-goes (T .first ∷ T .others) (frames T)
+
+  pub take-said : (p : ℕ) → says plain nothing p (unitsOf T) ≡ listed p (unitsOf T) (wordsOf T)
+  take-said p = sets-said p (T .first ∷ T .others) (frames T)

@@ -44,8 +44,12 @@ unfoldable pub pictureUnits : List Shot → List (List ℕ)
 pictureUnits [] = []
 pictureUnits (s ∷ ss) = pictureUnit (sequenceIn s) (lendsOf s) ∷ pictureUnits ss
 
+-- both parameter sets of a size and pictures behind them
+abbrev pub setsAnd : Sequence → List Shot → List (List ℕ)
+setsAnd q ss = spsUnit q ∷ ppsUnit ∷ pictureUnits ss
+
 abbrev pub unitsOf : Take → List (List ℕ)
-unitsOf T = spsUnit (sizeOf T) ∷ ppsUnit ∷ pictureUnits (T .first ∷ T .others)
+unitsOf T = setsAnd (sizeOf T) (T .first ∷ T .others)
 
 -- a picture's visible samples
 abbrev pub samplesOf : Shot → Samples
@@ -91,3 +95,13 @@ follows-frames q (s ∷ ss) f = let d = next-framed s (f .0) in (d, rw (d .size)
 
 pub frames : (T : Take) → Frames (sizeOf T) (T .first ∷ T .others)
 frames T = (first-framed T, follows-frames (sizeOf T) (T .others) (T .follows))
+
+-- of some pictures and those behind them
+pub frames-both : (q : Sequence) (ss ts : List Shot) → Frames q (ss ++ ts) → Frames q ss × Frames q ts
+frames-both q [] ts f = (tt, f)
+frames-both q (s ∷ ss) ts f = let g = frames-both q ss ts (f .1) in ((f .0, g .0), g .1)
+
+pub units-both : (ss ts : List Shot) → pictureUnits (ss ++ ts) ≡ pictureUnits ss ++ pictureUnits ts
+unfolding pictureUnits
+units-both [] ts = refl
+units-both (s ∷ ss) ts = rw (units-both ss ts) refl

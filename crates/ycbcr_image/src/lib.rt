@@ -90,7 +90,7 @@ pub fn is_monochrome(s: Session) -> bool
 }
 
 // The columns of plane p's block in a macroblock; 0 where the kind has no such plane, and so for all that follows.
-pub fn mb_width(s: Session, p: u32) -> usize
+fn mb_width(s: Session, p: u32) -> usize
     ensures { λ r. ⌜ r ≡ blockWidth (sequenceOf s .form) p ⌝ }
 {
     if p == 0 {
@@ -140,7 +140,7 @@ pub fn crop_unit_y(s: Session) -> u32
 }
 
 // The bytes of n samples in a row.
-pub fn row_bytes(s: Session, n: usize) -> usize
+fn row_bytes(s: Session, n: usize) -> usize
     requires { ⌜ n < 2 ^ 62 ⌝ }
     ensures { λ r. ⌜ r ≡ bytesOf (sequenceOf s .form) n ⌝ }
 {
@@ -198,7 +198,7 @@ pub fn mbs_height(s: Session) -> usize
 }
 
 // The visible columns of plane p.
-pub fn visible_width(s: Session, p: u32) -> usize
+fn visible_width(s: Session, p: u32) -> usize
     ensures { λ r. ⌜ r ≡ visibleWidth (sequenceOf s) p ⌝ }
 {
     s.width as usize * mb_width(s, p) / 16
@@ -227,7 +227,7 @@ pub fn tight_len(s: Session, p: u32) -> usize
 }
 
 // The bytes of a row of plane p with its padding.
-pub fn padded_row_bytes(s: Session, p: u32) -> usize
+fn padded_row_bytes(s: Session, p: u32) -> usize
     requires { ⌜ p < planes (sequenceOf s .form) ⌝ }
     ensures { λ r. ⌜ r ≡ paddedRowBytes (sequenceOf s) p ⌝ }
 {
@@ -238,7 +238,7 @@ pub fn padded_row_bytes(s: Session, p: u32) -> usize
 }
 
 // Its rows with the padding.
-pub fn padded_rows(s: Session, p: u32) -> usize
+fn padded_rows(s: Session, p: u32) -> usize
     requires { ⌜ p < planes (sequenceOf s .form) ⌝ }
     ensures { λ r. ⌜ r ≡ paddedHeight (sequenceOf s) p ⌝ }
 {

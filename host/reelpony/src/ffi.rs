@@ -304,9 +304,13 @@ pub fn read_se(payload: &[u8], place: u64, mut x: i32) -> CodeAnswer<i32> {
     CodeAnswer { number, x, behind }
 }
 
-/// The linker compares names alone, so this holds the declarations above to the header's.
+/// The linker compares names alone, so this holds the declarations above, those of the proved source
+/// and the library's names to the header's.
 #[cfg(test)]
 mod tests {
+    use std::path::Path;
+    use std::{env, fs, str};
+
     /// A parameter's name, and its type in Rust's words.
     type Parameter = (String, String);
 
@@ -380,34 +384,112 @@ mod tests {
         (name.to_string(), rust_type.to_string())
     }
 
-    #[test]
-    fn declarations_are_the_headers() {
+    /// The functions that the header declares.
+    fn in_header() -> Vec<Function> {
         let header = without_comments(include_str!("../../../include/reelpony.h"));
         let header = without_inline(&header);
-        let source = include_str!("ffi.rs").split_inclusive("\n}").next().unwrap();
-        let mentions = [&header, source].map(|text| text.matches(" reelpony_").count());
-
-        let c_result = |before: &str, _: &str| {
+        let result = |before: &str, _: &str| {
             let (_, word) = before.rsplit_once('\n').expect("a line of its own");
             word.replace("uint", "u").replace("_t", "")
         };
-        let rust_result = |_: &str, after: &str| after.replace(" -> ", "");
-        let mut header = functions(&header, from_c, c_result);
-        let mut source = functions(source, from_rust, rust_result);
-        assert_eq!([header.len(), source.len()], mentions, "functions that were found");
-        header.sort();
-        source.sort();
+        let mut found = functions(&header, from_c, result);
+        let mentions = header.matches(" reelpony_").count();
+        assert_eq!(found.len(), mentions, "functions that were found in the header");
+        found.sort();
+        found
+    }
+
+    /// Both have the same functions, with the same parameters and results.
+    fn assert_same(found: &[Function], header: &[Function]) {
         let names = |functions: &[Function]| -> Vec<String> {
             functions.iter().map(|(name, ..)| name.clone()).collect()
         };
-        assert_eq!(names(&source), names(&header));
-        for ((name, c, c_result), (_, rust, rust_result)) in header.iter().zip(&source) {
-            assert_eq!(rust_result, c_result, "the result of {name}");
-            assert_eq!(rust.len(), c.len(), "parameters of {name}");
-            for (c, rust) in c.iter().zip(rust) {
-                assert_eq!(rust, c, "a parameter of {name}");
+        assert_eq!(names(found), names(header));
+        for ((name, c, c_result), (_, other, result)) in header.iter().zip(found) {
+            assert_eq!(result, c_result, "the result of {name}");
+            assert_eq!(other.len(), c.len(), "parameters of {name}");
+            for (c, other) in c.iter().zip(other) {
+                assert_eq!(other, c, "a parameter of {name}");
             }
         }
+    }
+
+    #[test]
+    fn declarations_are_the_headers() {
+        let source = include_str!("ffi.rs").split_inclusive("\n}").next().unwrap();
+        let mut found = functions(source, from_rust, |_, after| after.replace(" -> ", ""));
+        let mentions = source.matches(" reelpony_").count();
+        assert_eq!(found.len(), mentions, "functions that were found here");
+        found.sort();
+        assert_same(&found, &in_header());
+    }
+
+    /// A parameter of the proved source as C passes it: a slice is a pointer and a length, a
+    /// reference a pointer, a number itself.
+    fn from_rattle(parameter: &str) -> Vec<Parameter> {
+        let (name, its_type) = from_rust(parameter);
+        let pointer = match its_type.as_str() {
+            "u32" | "i32" | "u64" | "usize" | "&mut u32" | "&mut i32" | "&mut u64"
+            | "&mut [u32; 8]" | "&mut [u64; 8]" | "&[u64; 8]" => return vec![(name, its_type)],
+            "&[u8]" => "*const u8",
+            "&mut [u8]" => "*mut u8",
+            other => panic!("a type of the source that this test doesn't know: {other:?}"),
+        };
+        let length = (format!("{name}_len"), "usize".to_string());
+        vec![(name, pointer.to_string()), length]
+    }
+
+    /// The functions that a proved source exports under their own names.
+    fn exports(source: &str) -> Vec<Function> {
+        let begin = "#[no_mangle]\npub extern \"C\" fn reelpony_";
+        let export = |text: &str| {
+            let (name, text) = text.split_once('(').expect("a parenthesis");
+            let (parameters, after) = text.split_once(')').expect("its end");
+            let parameters = parameters.trim().trim_end_matches(',').split(',');
+            let result = after.strip_prefix(" -> ").expect("a result").lines().next().unwrap();
+            (name.into(), parameters.flat_map(from_rattle).collect(), result.into())
+        };
+        let found: Vec<Function> = source.split(begin).skip(1).map(export).collect();
+        assert_eq!(found.len(), source.matches("extern \"C\"").count(), "exports found");
+        assert_eq!(found.len(), source.matches("no_mangle").count(), "exports found");
+        found
+    }
+
+    /// What the proofs are about is what the header declares: the types of crates/reelpony are the
+    /// contracts' own.
+    #[test]
+    fn the_proved_source_is_the_headers() {
+        let folder = common::root().join("crates/reelpony/src");
+        let files = fs::read_dir(folder).unwrap().map(|file| file.unwrap().path());
+        let sources = files.map(|file| fs::read_to_string(file).unwrap());
+        let mut found: Vec<Function> = sources.flat_map(|source| exports(&source)).collect();
+        found.sort();
+        assert_same(&found, &in_header());
+    }
+
+    /// The names that the library defines for a linker: those of its index, a member that the
+    /// archive begins with (a count and as many places, of four bytes each, then the names).
+    fn symbols(archive: &[u8]) -> Vec<String> {
+        let index = archive.strip_prefix(b"!<arch>\n/ ").expect("an archive with an index");
+        let (head, rest) = index.split_at(60 - 2);
+        let length: usize = str::from_utf8(&head[46..56]).unwrap().trim().parse().unwrap();
+        let (count, rest) = rest[..length].split_at(4);
+        let count = u32::from_be_bytes(count.try_into().unwrap()) as usize;
+        let names = rest[4 * count..].split(|&byte| byte == 0).take(count);
+        names.map(|name| String::from_utf8(name.to_vec()).unwrap()).collect()
+    }
+
+    /// The library defines what the header declares and nothing else.
+    #[test]
+    fn the_library_exports_what_the_header_declares() {
+        let named = env::var_os("REELPONY_LIB_DIR").filter(|name| !name.is_empty());
+        let folder = named.map_or(common::root().join("target/staticlib"), |name| {
+            Path::new(env!("CARGO_MANIFEST_DIR")).join(name)
+        });
+        let mut found = symbols(&fs::read(folder.join("libreelpony.a")).unwrap());
+        found.sort();
+        let declared = in_header().into_iter().map(|(name, ..)| format!("reelpony_{name}"));
+        assert_eq!(found, declared.collect::<Vec<_>>());
     }
 
     /// The header's version, as a text and in three numbers, is the crate's.

@@ -1,8 +1,10 @@
 -- `nal_unit::taking::inserted_at` meets its contract: no bit is set exactly where both bytes before are 0 and the byte is 3. Assumes nothing.
+use mathlib.Core.Path.{sym, _∙_}
+use native.Mathlib.Omega.{arith}
 use borrow.Author.Needs.{needs}
 use lib.ListN.{getD}
 use Prim.Native.Nat.{_-_}
-use Rattle.nal_unit.specs.Kept.{insAt}
+use Rattle.nal_unit.specs.Kept.{ins-at}
 use Rattle.nal_unit.specs.TakingCode.{ins-bits}
 use Rattle.nal_unit.proofs.taking.inserted_at.Statement.{statement}
 use Rattle.nal_unit.proofs.taking.inserted_at.Tie as tie
@@ -23,10 +25,9 @@ shared-slice-read-result-3 : tie.Need-shared-slice-read-result-3
 shared-slice-read-result-3 c = search needs
 
 returns : tie.Need-returns
-unfolding insAt
 returns c =
     let a = c .before .before .before .args in
-    ins-bits (getD (a .s .now) (a .p - 2) 0) (getD (a .s .now) (a .p - 1) 0) (getD (a .s .now) (a .p) 0)
+    ins-bits (getD (a .s .now) (a .p - 2) 0) (getD (a .s .now) (a .p - 1) 0) (getD (a .s .now) (a .p) 0) ∙ sym (ins-at (a .s .now) (a .p) (omega arith))
 
 pub inserted-at-spec : {M : Type 1} → statement M
 inserted-at-spec =

@@ -2,6 +2,7 @@
 use native.Mathlib.Omega.{arith}
 use borrow.Author.Needs.{needs}
 use Rattle.nal_unit.specs.Taking.{pass-zeros}
+use Rattle.nal_unit.specs.TakingCode.{zeros-are}
 use Rattle.nal_unit.proofs.taking.pass_marked.Statement.{statement}
 use Rattle.nal_unit.proofs.taking.pass_marked.Tie as tie
 
@@ -11,7 +12,7 @@ zeros-requires c κs = search needs
 returns : tie.Need-returns
 returns c =
     let a = c .before .before .before .args in
-    pass-zeros (a .p) (a .e) (c .before .zeros .result) (a .n) (omega arith) (omega arith) (omega arith) (c .before .zeros .ensures (c .if1 .taken))
+    pass-zeros (a .p) (a .e) (c .before .zeros .result) (a .n) (omega arith) (omega arith) (omega arith) (zeros-are (a .s .now) (a .p) (a .e) (a .n) (c .before .zeros .result) (omega arith) (omega arith) (omega arith) (c .before .zeros .ensures) (c .if1 .taken))
 
 skip-requires : tie.Need-skip-requires
 skip-requires c κs = search needs

@@ -25,7 +25,7 @@ sum c =
     let b = c .before .before .before .before in
     let a = b .args in
     let s = a .s .now in
-    omega (arith, c .count-inserted .ensures, b .pre .1 .1, kept-length s (a .o + 1) (a .e) (omega arith) (omega arith), count-append s (a .o + 1) (a .c) (a .e) (omega arith) (omega arith) (omega arith) (omega arith))
+    omega (arith, c .count-inserted .ensures, b .pre .1 .1, kept-length s (a .o + 1) (a .e) (omega arith) (omega arith), count-append s (a .o + 1) (a .c) (a .e) (omega arith) (omega arith) (omega arith))
 
 sub-result-2 : tie.Need-sub-result-2
 sub-result-2 c = omega (arith, sum c)

@@ -42,7 +42,7 @@ returns c =
     let g : p + 8 + 16 ≡ p + 24 = omega arith in
     let y = eqb-true (insCount s p (p + 16)) 0 (sym (j .calm .ensures) ∙ k .before .if1 .taken) in
     let z = eqb-true (insCount s (p + 8) (p + 8 + 16)) 0 (sym (k .calm2 .ensures) ∙ c .before .before .before .before .if2 .taken) in
-    let w = calm-join s p (p + 24) (p + 8) (p + 16) (omega arith) (omega arith) (omega arith) (omega arith) (omega arith) y (rw g at z) in
+    let w = calm-join s p (p + 24) (p + 8) (p + 16) (omega arith) (omega arith) (omega arith) (omega arith) y (rw g at z) in
     took-calm p (b .args .e) 24 24 (omega arith) (omega arith) h (omega arith) (eq-eqb (insCount s p (p + 24)) 0 w) (c .before .before .copy24 .ensures)
 
 take-marked-requires : tie.Need-take-marked-requires

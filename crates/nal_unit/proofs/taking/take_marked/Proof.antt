@@ -1,6 +1,7 @@
 -- `nal_unit::taking::take_marked` meets its contract: pairs of zeros are passed and zeros written, or the bytes are taken one by one. Assumes nothing.
+use mathlib.Core.Path.{sym, _∙_}
 use native.Mathlib.Omega.{arith}
-use Rattle.nal_unit.specs.TakingCode.{took-pairs}
+use Rattle.nal_unit.specs.TakingCode.{pairs-are, took-pairs}
 use borrow.Author.Needs.{needs}
 use Rattle.nal_unit.proofs.taking.take_marked.Statement.{statement}
 use Rattle.nal_unit.proofs.taking.take_marked.Tie as tie
@@ -33,7 +34,7 @@ returns : tie.Need-returns
 returns c =
     let k = c .before .before .before .before .before in
     let a = k .before .before .before .before .args in
-    took-pairs (a .p) (a .e) (a .n) (omega arith) (omega arith) (omega arith) (k .pairs .ensures (c .before .before .before .before .if2 .taken)) (c .before .before .write-zeros .ensures)
+    took-pairs (a .p) (a .e) (a .n) (omega arith) (omega arith) (omega arith) (pairs-are (a .s .now) (a .p) (a .n) (omega arith) (omega arith) (omega arith) (sym (k .pairs .ensures) ∙ c .before .before .before .before .if2 .taken)) (c .before .before .write-zeros .ensures)
 
 mul-take-slow : tie.Need-mul-take-slow
 mul-take-slow c = search needs

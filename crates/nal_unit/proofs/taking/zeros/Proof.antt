@@ -1,10 +1,9 @@
 -- `nal_unit::taking::zeros` meets its contract: pairs of zeros are passed at once. Assumes nothing.
-use mathlib.Core.Path.{ap, _∙_}
-use Prim.Native.Nat.{ℕ}
+use mathlib.Core.Path.{sym, _∙_}
 use native.Mathlib.Omega.{arith}
-use lib.ListN.{replicate}
 use borrow.Author.Needs.{needs}
 use Rattle.nal_unit.specs.Kept.{kept-room}
+use Rattle.nal_unit.specs.TakingCode.{zeros-found, zeros-not, zeros-short, zeros-odd, zeros-few}
 use Rattle.nal_unit.proofs.taking.zeros.Statement.{statement}
 use Rattle.nal_unit.proofs.taking.zeros.Tie as tie
 
@@ -30,19 +29,29 @@ add-result : tie.Need-add-result
 add-result c = search needs
 
 returns : tie.Need-returns
-returns c = λ h. (c .before .pairs .ensures (c .if4 .taken) ∙ ap (λ (k : ℕ). replicate k 0) (c .before .before .before .if2 .taken), omega arith)
+returns c =
+    let a = c .before .before .before .before .before .before .args in
+    zeros-found (a .s .now) (a .p) (a .e) (a .n) (omega arith) (c .before .before .before .if2 .taken) (omega arith) (sym (c .before .pairs .ensures) ∙ c .if4 .taken)
 
 returns-2 : tie.Need-returns-2
-returns-2 c = λ h. absurd (omega arith)
+returns-2 c =
+    let a = c .before .before .before .before .before .before .args in
+    zeros-not (a .s .now) (a .p) (a .e) (a .n) (sym (c .before .pairs .ensures) ∙ c .if4 .left)
 
 returns-3 : tie.Need-returns-3
-returns-3 c = λ h. absurd (omega arith)
+returns-3 c =
+    let a = c .before .before .before .before .args in
+    zeros-short (a .s .now) (a .p) (a .e) (a .n) (omega arith)
 
 returns-4 : tie.Need-returns-4
-returns-4 c = λ h. absurd (omega arith)
+returns-4 c =
+    let a = c .before .before .before .args in
+    zeros-odd (a .s .now) (a .p) (a .e) (a .n) (c .if2 .left)
 
 returns-5 : tie.Need-returns-5
-returns-5 c = λ h. absurd (omega arith)
+returns-5 c =
+    let a = c .before .before .args in
+    zeros-few (a .s .now) (a .p) (a .e) (a .n) (omega arith)
 
 pub zeros-spec : {M : Type 1} → statement M
 zeros-spec =

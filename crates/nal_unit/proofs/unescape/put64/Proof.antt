@@ -7,6 +7,7 @@ use borrow.Author.Needs.{needs}
 use Rattle.lists.specs.Part.{part, part-length}
 use Rattle.nal_unit.specs.Kept.{kept}
 use Rattle.nal_unit.specs.Taking.{kept-flat}
+use Rattle.nal_unit.specs.TakingCode.{pairs-are}
 use Rattle.nal_unit.specs.UnescapeCode.{unescapes-as, Unescaping, unescaping-start, unescaping-room, unescaping-turn, unescaping-end}
 use Rattle.nal_unit.proofs.unescape.put64.Statement.{statement}
 use Rattle.nal_unit.proofs.unescape.put64.Tie as tie
@@ -48,7 +49,9 @@ begun c =
 
 -- 63 bytes of it are pairs of zeros
 zeros : (c : tie.Then2) → let a = c .before .before .before .before .before .before .args in kept (a .s .now) (a .p) (a .p + 63) ≡ replicate 42 0
-zeros c = c .before .pairs .ensures (c .if2 .taken)
+zeros c =
+    let a = c .before .before .before .before .before .before .args in
+    pairs-are (a .s .now) (a .p) 21 (omega arith) (omega arith) (omega arith) (sym (c .before .pairs .ensures) ∙ c .if2 .taken)
 
 write-zeros-requires : tie.Need-write-zeros-requires
 write-zeros-requires c κs =

@@ -6,6 +6,7 @@ use lib.ListN.{length}
 use borrow.Author.Needs.{needs}
 use Rattle.ycbcr_image.specs.Sizes.{sequenceOf, picWidthInMbs}
 use Rattle.nal_unit.specs.Taking.{stands-pass}
+use Rattle.nal_unit.specs.TakingCode.{zeros-are}
 use Rattle.reader.specs.Heads.{payloadAt}
 use Rattle.reader.specs.Samples.{DarkRow, row-long, dark-start, dark-head, dark-samples, dark-turn, dark-row}
 use Rattle.reader.proofs.samples.dark.Statement.{statement}
@@ -59,8 +60,14 @@ loop-less c = search needs
 
 loop-again : tie.Need-loop-again Inv-loop μ-loop
 loop-again c =
-    let g = c .before .before .before .before .loop .inv .1 in
-    (omega (arith, c .before .before .before .loop-test .taken), dark-turn g (c .before .before .pass .ensures) (c .if1 .left) (c .before .zeros .ensures (c .if1 .left)))
+    let l = c .before .before .before .before in
+    let a = l .before .before .before .before .args in
+    let g = l .loop .inv .1 in
+    let w = c .before .before .pass .ensures in
+    let t = stands-pass (g .at) w in (
+      omega (arith, c .before .before .before .loop-test .taken),
+      dark-turn g w (c .if1 .left) (zeros-are (a .s .now) (c .before .before .pass .result) (a .e) (l .before .mb-bytes .result) (c .before .zeros .result) (t .low) (t .high) (t .inside) (c .before .zeros .ensures) (c .if1 .left)),
+    )
 
 returns-2 : tie.Need-returns-2 Inv-loop μ-loop
 returns-2 c =
