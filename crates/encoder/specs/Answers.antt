@@ -3,16 +3,18 @@
 --     sessionAfter            the session that it leaves, where s was held: only an accepted call changes it
 --     caseOf, encoded-one     an answer is known by its case, its number, its length and its session
 --     answerOf, outOf         of a call that 1 to 8 refuse with r, 0 for none, and that would write w: the answer, and the output, which held d
+--     Outcome, outcome        that answer and output by cases: accepted, no room, refused. An answer of 0 is the first (zero-written)
 --     startOf, startOut       the start call: SPS, PPS and the first picture
 --     nextOf, nextOut         the next call in a session: one picture
 -- Assumes nothing.
-use mathlib.Core.Path.{_≡_, refl, ap}
+use mathlib.Core.Path.{_≡_, refl, sym, ap, _∙_}
 use mathlib.Core.List.{List, _++_}
-use mathlib.Core.Bool.{cond}
-use Prim.Native.Nat.{ℕ}
+use mathlib.Core.Bool.{Bool, true, false, cond}
+use Prim.Native.Nat.{ℕ, _≤_, _<_}
 use native.Mathlib.Omega.{arith}
 use lib.Dec.{eqb, leb}
 use lib.ListN.{length, drop}
+use borrow.Author.Tests.{eqb-true, eqb-false, leb-true, leb-false}
 use Rattle.ycbcr_image.specs.declared.Session.{Session}
 use Rattle.ycbcr_image.specs.Sizes.{sequenceOf}
 use Rattle.ycbcr_image.specs.Refusals.{sessionOf, refusalOf, refusalNext}
@@ -59,6 +61,28 @@ answerOf r s w room = cond (eqb r 0) (cond (leb (length w) room) (Written s (len
 
 unfoldable pub outOf : ℕ → List ℕ → List ℕ → List ℕ
 outOf r w d = cond (eqb r 0) (cond (leb (length w) (length d)) (w ++ drop (length w) d) d) d
+
+pub data Outcome (r : ℕ) (s : Session) (w d : List ℕ) : Type 0 where
+  accepted : r ≡ 0 → length w ≤ length d → answerOf r s w (length d) ≡ Written s (length w) → outOf r w d ≡ w ++ drop (length w) d → Outcome r s w d
+  lacking : r ≡ 0 → length d < length w → answerOf r s w (length d) ≡ NoRoom (length w) → outOf r w d ≡ d → Outcome r s w d
+  refused : (r ≡ 0 → ⊥) → answerOf r s w (length d) ≡ Refused r → outOf r w d ≡ d → Outcome r s w d
+
+pub outcome : (r : ℕ) (s : Session) (w d : List ℕ) → Outcome r s w d
+unfolding answerOf outOf
+outcome r s w d = go (eqb r 0) (leb (length w) (length d)) refl refl
+  where
+    go : (b c : Bool) → eqb r 0 ≡ b → leb (length w) (length d) ≡ c → Outcome r s w d
+    go true true i j = accepted (eqb-true r 0 i) (leb-true _ _ j) (rw (i, j) refl) (rw (i, j) refl)
+    go true false i j = lacking (eqb-true r 0 i) (leb-false _ _ j) (rw (i, j) refl) (rw (i, j) refl)
+    go false c i j = refused (eqb-false r 0 i) (rw i refl) (rw i refl)
+
+pub zero-written : (r : ℕ) (s : Session) (w d : List ℕ) → numberOf (answerOf r s w (length d)) ≡ 0 → answerOf r s w (length d) ≡ Written s (length w)
+zero-written r s w d e = go (outcome r s w d)
+  where
+    go : Outcome r s w d → answerOf r s w (length d) ≡ Written s (length w)
+    go (accepted z m a o) = a
+    go (lacking z m a o) = let k : _≡_ {A = ℕ} 9 0 = sym (ap numberOf a) ∙ e in absurd (omega arith)
+    go (refused z a o) = absurd (z (sym (ap numberOf a) ∙ e))
 
 unfoldable pub startOf : Shot → List ℕ → Encoded
 startOf p d = answerOf (refusalOf (imageOf p)) (sessionOf (imageOf p)) (startBytes (sequenceIn p) (lendsOf p)) (length d)

@@ -4,8 +4,9 @@
 --     same             whether two lists are equal, for such a test
 --     either           one of two numbers is at most the other, or above it
 --     or-left .. and-right     what a test that failed says of its parts
+--     by-test, by-tests        what both values have that a test chooses from, the chosen one has; and so of two values that one test chooses
 -- Assumes nothing.
-use mathlib.Core.Bool.{Bool, true, false, _&&_, _||_, and-eq-true-iff}
+use mathlib.Core.Bool.{Bool, true, false, cond, _&&_, _||_, and-eq-true-iff}
 use mathlib.Core.List.{List, [], _∷_}
 use mathlib.Core.Path.{_≡_, refl}
 use Prim.Native.Nat.{ℕ, zero, suc, _≤_, _<_}
@@ -85,3 +86,11 @@ and-left false b e t = refl
 pub and-right : (a b : Bool) → (a && b) ≡ false → a ≡ true → b ≡ false
 and-right true b e t = e
 and-right false b e t = cc
+
+pub by-test : {A : Type 0} (P : A → Type 0) (b : Bool) {v w : A} → P v → P w → P (cond b v w)
+by-test P true x y = x
+by-test P false x y = y
+
+pub by-tests : {A : Type 0} (R : A → A → Type 0) (b : Bool) {v v′ w w′ : A} → R v w → R v′ w′ → R (cond b v v′) (cond b w w′)
+by-tests R true x y = x
+by-tests R false x y = y

@@ -6,7 +6,7 @@
 -- Assumes nothing.
 use mathlib.Core.Path.{_≡_, refl, sym, _∙_}
 use mathlib.Core.List.{List, [], _∷_}
-use mathlib.Core.Bool.{Bool, true, false, not, _&&_, true≢false, and-assoc}
+use mathlib.Core.Bool.{Bool, true, false, not, _&&_, and-assoc, and-eq-true-iff}
 use Prim.Native.Nat.{ℕ, zero, suc, _+_, _*_, _/_, _%_, _≤_, _<_}
 use native.Mathlib.Nat.{mod-eq-of-lt}
 use native.Mathlib.Numerals.{add-one}
@@ -45,17 +45,13 @@ less-plain : (z y x : ℕ) → z ≤ y → inserts y x ≡ false → inserts z x
 unfolding inserts
 less-plain z y x l e = either 2 z (λ f. rw (le-leb 2 z f) (rw (le-leb 2 y (omega arith)) at e)) (λ f. rw (lt-leb 2 z f) refl)
 
-and-both : (a b : Bool) → a && b ≡ true → (a ≡ true) × (b ≡ true)
-and-both true b e = (refl, e)
-and-both false b e = absurd (true≢false (sym e))
-
 -- a part of s whose bytes all do, written where fewer zeros are counted or as many
 pub quiet-part : (s : List ℕ) (p n z : ℕ) → p + n ≤ length s → z ≤ 2 → z ≤ counted s p → every (plainAt s) p n ≡ true → Quiet z (part s p n)
 unfolding every plainAt
 quiet-part s p zero z h l m q = rw (part-none s p) none
 quiet-part s p (suc n) z h l m q =
     let x = getD s p 0 in
-    let a = and-both (not (inserts (counted s p) x)) (every (plainAt s) (p + 1) n) q in
+    let a = and-eq-true-iff (not (inserts (counted s p) x)) (every (plainAt s) (p + 1) n) .0 q in
     let m′ : zeros z x ≤ counted s (p + 1) = rw (counted-step s p (omega arith)) (zeros-run z (counted s p) x l m) in
     rw (← add-one n, part-cons s p n (omega arith))
     (more (less-plain z (counted s p) x m (not-true (inserts (counted s p) x) (a .0))) (quiet-part s (p + 1) n (zeros z x) (omega arith) (zeros-most z x l) m′ (a .1)))
@@ -72,7 +68,7 @@ pub zero-part : (s : List ℕ) (p n : ℕ) → p + n ≤ length s → every (zer
 unfolding every zeroAt blanks
 zero-part s p zero h q = part-none s p
 zero-part s p (suc n) h q =
-    let a = and-both (eqb (getD s p 0) 0) (every (zeroAt s) (p + 1) n) q in
+    let a = and-eq-true-iff (eqb (getD s p 0) 0) (every (zeroAt s) (p + 1) n) .0 q in
     rw (← add-one n, part-cons s p n (omega arith), eqb-true (getD s p 0) 0 (a .0), zero-part s (p + 1) n (omega arith) (a .1)) refl
 
 -- the test of three bytes as the code makes it: the first two are zero, and the third is 03 or less

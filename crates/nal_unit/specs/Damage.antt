@@ -3,6 +3,7 @@
 --     Arrives P bytes h p q     some calls lead from the place p, with h held, to the place q with something held in P
 --     damage                    from a start code in a, the walk over a ++ (m ++ b) arrives at each start code in b, for every m
 --     damage-first              so does the walk from the first byte, if a is whole units, a start code, and anything
+--     front                     so are the first bytes of units in a row, if they reach behind a start code
 --     before                    the units before that start code are answered as always
 --     onward                    from there on, the answers with one stretch are those with another, with their offsets moved
 --     damage-reads              the whole reading
@@ -15,11 +16,11 @@ use Prim.Native.Nat.{ℕ, zero, suc, _+_, _-_, _≤_, _<_}
 use native.Mathlib.Nat.{add-zero, add-assoc}
 use native.Mathlib.Omega.{arith}
 use lib.ListN.{length, take, drop, length-append, length-drop, take-append-drop}
-use lib.Seq.{length-take-le, drop-append-le, drop-append-add, drop-drop}
+use lib.Seq.{length-take-le, drop-append-le, drop-append-add, drop-drop, take-append-add}
 use Rattle.nal_unit.specs.StartCode.{startCode, code, next, code-is, code-start, code-fits, next-code, next-start, next-there, next-most, apart}
 use Rattle.nal_unit.specs.Walk.{blank, trim, Calm, calm-code, calm-start, meet-unit, Whole, whole-next, whole-unit}
 use Rattle.nal_unit.specs.Calls.{Verdict, Say, ended, astray, said, at, State, answers, after, ans, aft, turn-unit, answers-ans, after-aft, answers-add, suffix, Steady, Full, steady}
-use Rattle.nal_unit.specs.Frame.{joined, joined-more, heldBy, says, Goes, frame}
+use Rattle.nal_unit.specs.Frame.{joined, joined-more, joined-tail, placeBy, place-joined, heldBy, says, Goes, frame}
 
 -- an answer behind a stretch of m bytes, where the stretch has m′ bytes instead
 unfoldable pub moved : {A : Type 0} → ℕ → ℕ → Say A → Say A
@@ -46,6 +47,19 @@ joined-lead : (us : List (List ℕ)) (t : List ℕ) → joined us (0 ∷ startCo
 unfolding joined lead
 joined-lead [] t = refl
 joined-lead (u ∷ us) t = rw (joined-lead us t) refl
+
+-- the first i bytes of units in a row, where the start code of the unit behind us stands before i
+pub front : (us : List (List ℕ)) (y : List ℕ) (i : ℕ) → placeBy 0 us + 4 ≤ i
+    → (x : List ℕ) × (take i (joined us (0 ∷ startCode y)) ≡ joined us (0 ∷ startCode x))
+front us y i l =
+    let r = i - (placeBy 0 us + 4) in
+    let n : i ≡ length (joined us []) + suc (suc (suc (suc r))) = omega (arith, place-joined 0 us) in (
+      take r y,
+      ap (λ (k : ℕ). take k (joined us (0 ∷ startCode y))) n
+          ∙ (ap (λ (s : List ℕ). take (length (joined us []) + suc (suc (suc (suc r)))) s) (joined-tail us (0 ∷ startCode y))
+          ∙ (take-append-add (joined us []) (0 ∷ startCode y) (suc (suc (suc (suc r))))
+          ∙ sym (joined-tail us (0 ∷ startCode (take r y))))),
+    )
 
 -- it begins with a start code
 record Lead (s : List ℕ) : Type 0 where

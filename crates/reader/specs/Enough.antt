@@ -3,21 +3,25 @@
 --     Enough room h     each lent plane has the bytes that a picture needs while h is held; where no size is, none
 --     plain h u         what the reader makes of a unit with planes of just these lengths
 --     enough-plain      and with any planes that are long enough; turn-plain the same of a call
---     plain-moves       no call keeps its place then; stay-nineteen: with any planes, only 19 keeps it
+--     plain-moves       no call keeps its place then, nor is one answered with 19 (turn-other)
+--     nineteen          19: what is held and the place are kept
+--     plain-or          with planes of any lengths the judge says that, or what it says with planes that are long enough; turn-or the same of a call
+--     stay-nineteen     only 19 keeps the place
 -- Assumes nothing.
-use mathlib.Core.Path.{_≡_, refl, sym, _∙_}
+use mathlib.Core.Path.{_≡_, refl, sym, ap, _∙_}
 use mathlib.Core.List.{List, [], _∷_}
+use mathlib.Core.Logic.{_⊎_, inl, inr}
 use mathlib.Core.Bool.{Bool, true, false, cond, true≢false}
 use mathlib.Core.Option.{Option, none, some}
-use Prim.Native.Nat.{ℕ, _≤_}
+use Prim.Native.Nat.{ℕ, _+_, _≤_}
 use native.Mathlib.Omega.{arith}
 use lib.Dec.{ltb, eqb}
 use lib.ListN.{length}
 use borrow.Author.Tests.{le-ltb}
-use Rattle.lists.specs.Test.{same}
+use Rattle.lists.specs.Test.{same, by-test, by-tests}
 use Rattle.nal_unit.specs.Unescape.{un, fault}
 use Rattle.nal_unit.specs.Walk.{Met, end, stray, unit, meet}
-use Rattle.nal_unit.specs.Calls.{Verdict, turned, turn}
+use Rattle.nal_unit.specs.Calls.{Verdict, said, at, Turn, turned, turn}
 use Rattle.parameter_sets.specs.Sps.{baseLevel}
 use Rattle.parameter_sets.specs.Pps.{ppsPayload}
 use Rattle.parameter_sets.specs.Read.{readSps}
@@ -25,7 +29,7 @@ use Rattle.slice.specs.Picture.{pictureLength}
 use Rattle.ycbcr_image.specs.Sizes.{Sequence, tightLength}
 use Rattle.ycbcr_image.specs.Refusals.{sessionBad}
 use Rattle.reader.specs.Judge.{Held, Word, sps, picture, refused, counted, keep, samplesOf, spsVerdict, ppsVerdict, short, formless, pictureVerdict, heldVerdict, unitVerdict, judge}
-use Rattle.reader.specs.Read.{planeLength}
+use Rattle.reader.specs.Read.{wordAt, told, numberTold, planeLength}
 
 pub record Enough (room : ℕ → ℕ) (h : Held) : Type 0 where
   pub y : planeLength h 0 ≤ room 0
@@ -72,94 +76,112 @@ turn-plain room h n s = go (meet s)
     go (stray k) = refl
     go (unit o u k) = rw (enough-plain room h n u) refl
 
--- a verdict that moves on
+-- a verdict that moves on, and is not 19
 record Moves (v : Verdict Held Word) : Type 0 where
   on : v .stay ≡ false
+  other : (o : ℕ) → eqb (numberTold (wordAt o (v .word))) 19 ≡ false
 
-moves-keep : (h : Held) (w : Word) → Moves (keep h w)
-moves-keep h w = record { on = refl }
-
-moves-if : (b : Bool) {v w : Verdict Held Word} → Moves v → Moves w → Moves (cond b v w)
-moves-if true x y = x
-moves-if false x y = y
+moves-keep : (h : Held) (w : Word) → ((o : ℕ) → eqb (numberTold (wordAt o w)) 19 ≡ false) → Moves (keep h w)
+moves-keep h w e = record { on = refl; other = e }
 
 module _ (h : Held) where
   sps-moves : (m : Option Sequence) → Moves (spsVerdict h (counted h) m)
   unfolding spsVerdict
-  sps-moves none = moves-keep h (refused 14)
+  sps-moves none = moves-keep h (refused 14) (λ o. refl)
   sps-moves (some q) = go (counted h .sps) refl
     where
       go : (m : Option Sequence) → counted h .sps ≡ m → Moves (spsVerdict h (counted h) (some q))
-      go none i = rw i (record { on = refl })
-      go (some p) i = rw i (moves-if (sessionBad p q) (moves-keep h (refused 15)) (moves-keep h (sps q)))
+      go none i = rw i (record { on = refl; other = λ o. refl })
+      go (some p) i = rw i (by-test Moves (sessionBad p q) (moves-keep h (refused 15) (λ o. refl)) (moves-keep h (sps q) (λ o. refl)))
 
   pps-moves : (X : List ℕ) → Moves (ppsVerdict h (counted h) X)
   unfolding ppsVerdict
-  pps-moves X = moves-if (same X ppsPayload) (record { on = refl }) (moves-keep h (refused 14))
+  pps-moves X = by-test Moves (same X ppsPayload) (record { on = refl; other = λ o. refl }) (moves-keep h (refused 14) (λ o. refl))
 
   held-moves : (X : List ℕ) → Moves (heldVerdict (planeLength h) h (counted h) X)
   unfolding heldVerdict pictureVerdict
   held-moves X = go (counted h .sps) refl
     where
       go : (m : Option Sequence) → counted h .sps ≡ m → Moves (heldVerdict (planeLength h) h (counted h) X)
-      go none i = rw i (moves-keep h (refused 16))
+      go none i = rw i (moves-keep h (refused 16) (λ o. refl))
       go (some q) i =
           rw (i, enough-long (planeLength h) h q (enough-own h) i)
-          (moves-if (counted h .pps)
-          (moves-if (ltb (length X) (pictureLength q)) (moves-keep h (refused 17)) (moves-if (formless q X) (moves-keep h (refused 18)) (moves-keep h (picture (samplesOf q X)))))
-          (moves-keep h (refused 16)))
+          (by-test Moves (counted h .pps)
+          (by-test Moves (ltb (length X) (pictureLength q)) (moves-keep h (refused 17) (λ o. refl))
+          (by-test Moves (formless q X) (moves-keep h (refused 18) (λ o. refl)) (moves-keep h (picture (samplesOf q X)) (λ o. refl))))
+          (moves-keep h (refused 16) (λ o. refl)))
 
   unit-moves : (x : ℕ) (X : List ℕ) → Moves (unitVerdict (planeLength h) h x X)
   unfolding unitVerdict
   unit-moves x X =
-      moves-if (eqb x 0x67) (sps-moves (readSps baseLevel X)) (moves-if (eqb x 0x68) (pps-moves X) (moves-if (eqb x 0x25) (held-moves X) (moves-keep h (refused 13))))
+      by-test Moves (eqb x 0x67) (sps-moves (readSps baseLevel X))
+      (by-test Moves (eqb x 0x68) (pps-moves X) (by-test Moves (eqb x 0x25) (held-moves X) (moves-keep h (refused 13) (λ o. refl))))
 
   moves : (u : List ℕ) → Moves (plain h u)
   unfolding judge
-  moves [] = moves-keep h (refused 11)
-  moves (x ∷ t) = moves-if (fault (x ∷ t)) (moves-keep h (refused 12)) (unit-moves x (un t))
+  moves [] = moves-keep h (refused 11) (λ o. refl)
+  moves (x ∷ t) = by-test Moves (fault (x ∷ t)) (moves-keep h (refused 12) (λ o. refl)) (unit-moves x (un t))
 
   pub plain-moves : (u : List ℕ) → plain h u .stay ≡ false
   plain-moves u = moves u .on
 
--- a verdict that keeps the place is 19
-record Stays (v : Verdict Held Word) : Type 0 where
-  nineteen : v .stay ≡ true → v .word ≡ refused 19
+  -- no call is answered with 19
+  pub turn-other : (p : ℕ) (s : List ℕ) → eqb (numberTold (told (at p (turn plain h s .say)))) 19 ≡ false
+  unfolding turn turned at
+  turn-other p s = go (meet s)
+    where
+      go : (m : Met) → eqb (numberTold (told (at p (turned plain h m .say)))) 19 ≡ false
+      go end = refl
+      go (stray k) = refl
+      go (unit o u k) = moves u .other (p + o)
 
-stays-moves : {v : Verdict Held Word} → Moves v → Stays v
-stays-moves m = record { nineteen = λ e. absurd (true≢false (sym e ∙ m .on)) }
+-- ---- planes of any lengths
 
-stays-if : (b : Bool) {v w : Verdict Held Word} → Stays v → Stays w → Stays (cond b v w)
-stays-if true x y = x
-stays-if false x y = y
+abbrev pub nineteen : Held → Verdict Held Word
+nineteen h = record { word = refused 19; held = h; stay = true }
 
 module _ (room : ℕ → ℕ) (h : Held) where
-  held-stays : (X : List ℕ) → Stays (heldVerdict room h (counted h) X)
+  -- the verdict v is w, or 19
+  abbrev Or : Verdict Held Word → Verdict Held Word → Type 0
+  Or v w = (v ≡ w) ⊎ (v ≡ nineteen h)
+
+  held-or : (X : List ℕ) → Or (heldVerdict room h (counted h) X) (heldVerdict (planeLength h) h (counted h) X)
   unfolding heldVerdict pictureVerdict
-  held-stays X = go (counted h .sps) refl
+  held-or X = go (counted h .sps) refl
     where
-      go : (m : Option Sequence) → counted h .sps ≡ m → Stays (heldVerdict room h (counted h) X)
-      go none i = rw i (stays-moves (moves-keep h (refused 16)))
+      lacks : (b : Bool) (q : Sequence) → Or (cond b (nineteen h) (keep h (picture (samplesOf q X)))) (keep h (picture (samplesOf q X)))
+      lacks true q = inr refl
+      lacks false q = inl refl
+
+      go : (m : Option Sequence) → counted h .sps ≡ m → Or (heldVerdict room h (counted h) X) (heldVerdict (planeLength h) h (counted h) X)
+      go none i = rw i (inl refl)
       go (some q) i =
-          rw i
-          (stays-if (counted h .pps)
-          (stays-if (ltb (length X) (pictureLength q)) (stays-moves (moves-keep h (refused 17)))
-          (stays-if (formless q X) (stays-moves (moves-keep h (refused 18)))
-          (stays-if (short room q) (record { nineteen = λ e. refl }) (stays-moves (moves-keep h (picture (samplesOf q X)))))))
-          (stays-moves (moves-keep h (refused 16))))
+          rw (i, enough-long (planeLength h) h q (enough-own h) i)
+          (by-tests Or (counted h .pps)
+          (by-tests Or (ltb (length X) (pictureLength q)) (inl refl) (by-tests Or (formless q X) (inl refl) (lacks (short room q) q)))
+          (inl refl))
 
-  unit-stays : (x : ℕ) (X : List ℕ) → Stays (unitVerdict room h x X)
-  unfolding unitVerdict
-  unit-stays x X =
-      stays-if (eqb x 0x67) (stays-moves (sps-moves h (readSps baseLevel X)))
-      (stays-if (eqb x 0x68) (stays-moves (pps-moves h X))
-      (stays-if (eqb x 0x25) (held-stays X) (stays-moves (moves-keep h (refused 13)))))
+  pub plain-or : (u : List ℕ) → (judge room h u ≡ plain h u) ⊎ (judge room h u ≡ nineteen h)
+  unfolding judge unitVerdict
+  plain-or [] = inl refl
+  plain-or (x ∷ t) =
+      by-tests Or (fault (x ∷ t)) (inl refl)
+      (by-tests Or (eqb x 0x67) (inl refl) (by-tests Or (eqb x 0x68) (inl refl) (by-tests Or (eqb x 0x25) (held-or (un t)) (inl refl))))
 
-  stays : (u : List ℕ) → Stays (judge room h u)
-  unfolding judge
-  stays [] = stays-moves (moves-keep h (refused 11))
-  stays (x ∷ t) = stays-if (fault (x ∷ t)) (stays-moves (moves-keep h (refused 12))) (unit-stays x (un t))
+  -- a call: it keeps what is held and its place where it is answered with 19
+  pub turn-or : (s : List ℕ) → (turn (judge room) h s ≡ turn plain h s) ⊎ ((o : ℕ) × (turn (judge room) h s ≡ record { say = said o (refused 19); moved = 0; held = h }))
+  unfolding turn turned
+  turn-or s = go (meet s)
+    where
+      go : (m : Met) → (turned (judge room) h m ≡ turned plain h m) ⊎ ((o : ℕ) × (turned (judge room) h m ≡ record { say = said o (refused 19); moved = 0; held = h }))
+      go end = inl refl
+      go (stray k) = inl refl
+      go (unit o u k) = elim (plain-or u) [ inl e ↦ inl (rw e refl) | inr e ↦ inr (o, rw e refl) ]
 
   -- Only 19 keeps the place, whatever the planes' lengths.
   pub stay-nineteen : (u : List ℕ) → judge room h u .stay ≡ true → judge room h u .word ≡ refused 19
-  stay-nineteen u = stays u .nineteen
+  stay-nineteen u t =
+      elim (plain-or u) [
+        | inl e ↦ absurd (true≢false (sym t ∙ (ap (λ (v : Verdict Held Word). v .stay) e ∙ plain-moves h u)))
+        | inr e ↦ rw e refl
+      ]

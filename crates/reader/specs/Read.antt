@@ -1,5 +1,6 @@
 -- The reader's call as the code has it (paper 01, "Reading a take"): the turn of the walk (crate nal_unit, Calls) with the reader's judge.
 --     Told, told, toldOf      an answer without its samples, which go to the planes: of the walk, and of the code
+--     numberTold              paper 01's number of an answer, 0 where it is no refusal
 --     heldOf                  the parameter sets that are held
 --     roomOf, rooms           the lengths of the lent planes
 --     planeLength             the length of a plane for a picture while h is held: its visible rows, stored tight
@@ -58,6 +59,13 @@ toldOf (Sps o s) = spsAt o (sequenceOf s)
 toldOf (Pps o) = ppsAt o
 toldOf (Picture o) = pictureAt o
 toldOf (Refused n o) = refusedAt o n
+
+abbrev pub numberTold : Told → ℕ
+numberTold over = 0
+numberTold (spsAt o q) = 0
+numberTold (ppsAt o) = 0
+numberTold (pictureAt o) = 0
+numberTold (refusedAt o n) = n
 
 abbrev pub spsOf : HeldSps → Option Sequence
 spsOf Missing = none

@@ -16,7 +16,7 @@ use Rattle.encoder.specs.declared.Depths.{Depths}
 use Rattle.encoder.specs.declared.Encoded.{Encoded}
 use Rattle.encoder.specs.Shot.{Shot, shot}
 use Rattle.encoder.specs.Answers.{numberOf, lengthOf, startOf, startOut, nextOf, nextOut}
-use Rattle.reelpony.specs.Numbers.{colourKnown, depthKnown, known, kindOf, bitDepthOf, depthsOf, Plane, shotOf, heldOf, wordsOf, wordsAfter, startNumber, startLength, startBuffer, startWords, nextNumber, nextLength, nextBuffer}
+use Rattle.reelpony.specs.Numbers.{colourKnown, depthKnown, known, kindOf, bitDepthOf, depthsOf, PictureIn, knownIn, heldOf, wordsOf, wordsAfter, startNumber, startLength, startBuffer, startWords, nextNumber, nextLength, nextBuffer, StartsIn, NextsIn}
 
 abbrev pub depths : BitDepth → BitDepth → BitDepth → Depths
 depths a b c = record { y = a; cb = b; cr = c }
@@ -47,35 +47,43 @@ pub words-as : (s : Session) {c d : ℕ} → c ≡ chromaOf (s .kind) → d ≡ 
 unfolding wordsOf
 words-as s e f = rw (e, f) refl
 
--- the strides of a call's planes
-abbrev pub strides : Plane → Plane → Plane → Strides
-strides y cb cr = record { y = y .stride; cb = cb .stride; cr = cr .stride }
+-- the strides of a picture's planes, and the picture as the writer's call has it
+abbrev pub strides : PictureIn → Strides
+strides p = record { y = p .y .stride; cb = p .cb .stride; cr = p .cr .stride }
 
--- what a call answers and leaves, in the order of its contract: number, length, bytes, session. Its numbers are not known:
-pub start-unknown : (p : Shot) (d ws : List ℕ) {a b : Bool} → a ≡ b → a ≡ false → (99 ≡ startNumber b p d) × ((0 ≡ startLength b p d) × ((d ≡ startBuffer b p d) × (ws ≡ startWords b p d ws)))
+abbrev pub shotWith : PictureIn → Kind → Depths → Shot
+shotWith p k ds = shot (p .width) (p .height) k (p .y .bytes) (p .cb .bytes) (p .cr .bytes) (strides p) ds
+
+-- what a call answers and leaves where its numbers are not known
+pub start-unknown : (p : PictureIn) (d ws : List ℕ) {a : Bool} → a ≡ knownIn p → a ≡ false → StartsIn p d ws 99 0 d ws
 unfolding startNumber startLength startBuffer startWords
-start-unknown p d ws f e = rw (← f, e) (refl, (refl, (refl, refl)))
+start-unknown p d ws f e = record { number = rw (← f, e) refl; len = rw (← f, e) refl; bytes = rw (← f, e) refl; session = rw (← f, e) refl }
 
-pub next-unknown : (p : Shot) (d ws : List ℕ) {a b : Bool} → a ≡ b → a ≡ false → (99 ≡ nextNumber b ws p d) × ((0 ≡ nextLength b ws p d) × ((d ≡ nextBuffer b ws p d) × (ws ≡ ws)))
+pub next-unknown : (p : PictureIn) (d ws : List ℕ) {a : Bool} → a ≡ knownIn p → a ≡ false → NextsIn p d ws 99 0 d ws
 unfolding nextNumber nextLength nextBuffer
-next-unknown p d ws f e = rw (← f, e) (refl, (refl, (refl, refl)))
+next-unknown p d ws f e = record { number = rw (← f, e) refl; len = rw (← f, e) refl; bytes = rw (← f, e) refl; session = refl }
 
 -- they are, and the writer's answer is r
-pub start-known : (w h c : ℕ) (y cb cr : Plane) (d ws : List ℕ) {a b : Bool} {k : Kind} {ds : Depths} {r : Encoded} {d′ ws′ : List ℕ} {n l : ℕ} → a ≡ b → a ≡ true
-    → k ≡ kindOf c → ds ≡ depthsOf (y .depth) (cb .depth) (cr .depth)
-    → r ≡ startOf (shot w h k (y .bytes) (cb .bytes) (cr .bytes) (strides y cb cr) ds) d → d′ ≡ startOut (shot w h k (y .bytes) (cb .bytes) (cr .bytes) (strides y cb cr) ds) d
-    → ws′ ≡ wordsAfter r ws → l ≡ lengthOf r → n ≡ numberOf r
-    → (n ≡ startNumber b (shotOf w h c y cb cr) d) × ((l ≡ startLength b (shotOf w h c y cb cr) d) × ((d′ ≡ startBuffer b (shotOf w h c y cb cr) d) × (ws′ ≡ startWords b (shotOf w h c y cb cr) d ws)))
+pub start-known : (p : PictureIn) (d ws : List ℕ) {a : Bool} {k : Kind} {ds : Depths} {r : Encoded} {d′ ws′ : List ℕ} {n l : ℕ} → a ≡ knownIn p → a ≡ true
+    → k ≡ kindOf (p .colour) → ds ≡ depthsOf (p .y .depth) (p .cb .depth) (p .cr .depth)
+    → r ≡ startOf (shotWith p k ds) d → d′ ≡ startOut (shotWith p k ds) d → ws′ ≡ wordsAfter r ws → l ≡ lengthOf r → n ≡ numberOf r → StartsIn p d ws n l d′ ws′
 unfolding startNumber startLength startBuffer startWords
-start-known w h c y cb cr d ws f e k ds r o u l n =
-    rw (← f, e)
-    (n ∙ ap numberOf (rw (k, ds) at r), (l ∙ ap lengthOf (rw (k, ds) at r), (rw (k, ds) at o, u ∙ ap (λ (x : Encoded). wordsAfter x ws) (rw (k, ds) at r))))
+start-known p d ws f e k ds r o u l n =
+    record {
+      number = rw (← f, e) (n ∙ ap numberOf (rw (k, ds) at r));
+      len = rw (← f, e) (l ∙ ap lengthOf (rw (k, ds) at r));
+      bytes = rw (← f, e) (rw (k, ds) at o);
+      session = rw (← f, e) (u ∙ ap (λ (x : Encoded). wordsAfter x ws) (rw (k, ds) at r));
+    }
 
-pub next-known : (w h c : ℕ) (y cb cr : Plane) (d ws : List ℕ) {a b : Bool} {k : Kind} {ds : Depths} {s : Session} {r : Encoded} {d′ : List ℕ} {n l : ℕ} → a ≡ b → a ≡ true
-    → k ≡ kindOf c → ds ≡ depthsOf (y .depth) (cb .depth) (cr .depth) → s ≡ heldOf ws
-    → r ≡ nextOf s (shot w h k (y .bytes) (cb .bytes) (cr .bytes) (strides y cb cr) ds) d → d′ ≡ nextOut s (shot w h k (y .bytes) (cb .bytes) (cr .bytes) (strides y cb cr) ds) d
-    → l ≡ lengthOf r → n ≡ numberOf r
-    → (n ≡ nextNumber b ws (shotOf w h c y cb cr) d) × ((l ≡ nextLength b ws (shotOf w h c y cb cr) d) × ((d′ ≡ nextBuffer b ws (shotOf w h c y cb cr) d) × (ws ≡ ws)))
+pub next-known : (p : PictureIn) (d ws : List ℕ) {a : Bool} {k : Kind} {ds : Depths} {s : Session} {r : Encoded} {d′ : List ℕ} {n l : ℕ} → a ≡ knownIn p → a ≡ true
+    → k ≡ kindOf (p .colour) → ds ≡ depthsOf (p .y .depth) (p .cb .depth) (p .cr .depth) → s ≡ heldOf ws
+    → r ≡ nextOf s (shotWith p k ds) d → d′ ≡ nextOut s (shotWith p k ds) d → l ≡ lengthOf r → n ≡ numberOf r → NextsIn p d ws n l d′ ws
 unfolding nextNumber nextLength nextBuffer
-next-known w h c y cb cr d ws f e k ds s r o l n =
-    rw (← f, e) (n ∙ ap numberOf (rw (k, ds, s) at r), (l ∙ ap lengthOf (rw (k, ds, s) at r), (rw (k, ds, s) at o, refl)))
+next-known p d ws f e k ds s r o l n =
+    record {
+      number = rw (← f, e) (n ∙ ap numberOf (rw (k, ds, s) at r));
+      len = rw (← f, e) (l ∙ ap lengthOf (rw (k, ds, s) at r));
+      bytes = rw (← f, e) (rw (k, ds, s) at o);
+      session = refl;
+    }

@@ -26,10 +26,10 @@ use Rattle.encoder.specs.Units.{pictureUnit, nextBytes}
 use Rattle.encoder.specs.Answers.{outOf, nextOut}
 use Rattle.encoder.specs.Room.{pictureMost, roomOf}
 use Rattle.reader.specs.Judge.{possible, counted, unitVerdict, judge}
-use Rattle.reader.specs.Read.{refusedAt, told, planeLength}
+use Rattle.reader.specs.Read.{refusedAt, told, numberTold, planeLength}
 use Rattle.reelpony.specs.Numbers.{colourKnown, depthKnown, known, kindOf, bitDepthOf, plane, shotOf, heldOf, startNumber, startLength, nextNumber, nextBuffer}
 use Rattle.reelpony.specs.Pieces.{escapeNumber, escapeLength, unescapeNumber, unescapeLength}
-use Rattle.reelpony.specs.Reading.{heldIn, turnIn, numberTold}
+use Rattle.reelpony.specs.Reading.{heldIn, turnIn}
 use Rattle.reelpony.specs.Room.{roomNumber}
 
 -- a colour picture of 16 x 16 whose Y is all 0x10, Cb 0x20, Cr 0x30; its session

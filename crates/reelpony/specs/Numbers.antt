@@ -1,12 +1,14 @@
 -- The calls as C sees them: kinds, depths and sessions are numbers there.
 --     colourKnown, depthKnown     a colour is 0 (mono) or 1 (4:2:0), a depth 8 or 12
 --     known                       what a call is given can be looked at: its colour, and the depths of the planes that its kind has. Else the answer is 99
---     shotOf                      the picture of a call
+--     PictureIn, shotIn           the picture that a call is given, in numbers and planes; as the writer has it. knownIn: it can be looked at
 --     heldOf                      the session that eight numbers say: width, height, colour, depth, whoever wrote them; the others are not looked at. Where the
 --                                 third is no colour or the fourth no depth, a session of no size, which no picture that passes 1 to 5 has
 --     wordsOf, wordsAfter         the eight numbers of a session; those that an answer leaves
 --     startNumber ..              what a start call answers and leaves, where b says whether its numbers are known; nextNumber .. the same of a next call
+--     StartsIn, NextsIn           what `reelpony_start` and `reelpony_next` answer and leave, whole
 -- Assumes nothing.
+use mathlib.Core.Path.{_≡_}
 use mathlib.Core.List.{List, [], _∷_}
 use mathlib.Core.Bool.{Bool, cond, _&&_, _||_}
 use Prim.Native.Nat.{ℕ}
@@ -56,6 +58,23 @@ lentOf a = lent (a .bytes) (a .stride) (bitDepthOf (a .depth))
 abbrev pub shotOf : ℕ → ℕ → ℕ → Plane → Plane → Plane → Shot
 shotOf w h c y cb cr = record { width = w; height = h; kind = kindOf c; y = lentOf y; cb = lentOf cb; cr = lentOf cr }
 
+pub record PictureIn : Type 0 where
+  pub width : ℕ
+  pub height : ℕ
+  pub colour : ℕ
+  pub y : Plane
+  pub cb : Plane
+  pub cr : Plane
+
+abbrev pub pictureIn : ℕ → ℕ → ℕ → Plane → Plane → Plane → PictureIn
+pictureIn w h c y cb cr = record { width = w; height = h; colour = c; y = y; cb = cb; cr = cr }
+
+abbrev pub shotIn : PictureIn → Shot
+shotIn p = shotOf (p .width) (p .height) (p .colour) (p .y) (p .cb) (p .cr)
+
+abbrev pub knownIn : PictureIn → Bool
+knownIn p = known (p .colour) (p .y .depth) (p .cb .depth) (p .cr .depth)
+
 unfoldable pub heldOf : List ℕ → Session
 heldOf ws =
     cond (colourKnown (getD ws 2 0) && depthKnown (getD ws 3 0))
@@ -92,3 +111,16 @@ nextLength b ws p d = cond b (lengthOf (nextOf (heldOf ws) p d)) 0
 
 unfoldable pub nextBuffer : Bool → List ℕ → Shot → List ℕ → List ℕ
 nextBuffer b ws p d = cond b (nextOut (heldOf ws) p d) d
+
+-- the picture p is given, with the output d and the session's numbers ws; the result is n, and then the length is l, the output d′, the numbers ws′
+pub record StartsIn (p : PictureIn) (d ws : List ℕ) (n l : ℕ) (d′ ws′ : List ℕ) : Type 0 where
+  pub number : n ≡ startNumber (knownIn p) (shotIn p) d
+  pub len : l ≡ startLength (knownIn p) (shotIn p) d
+  pub bytes : d′ ≡ startBuffer (knownIn p) (shotIn p) d
+  pub session : ws′ ≡ startWords (knownIn p) (shotIn p) d ws
+
+pub record NextsIn (p : PictureIn) (d ws : List ℕ) (n l : ℕ) (d′ ws′ : List ℕ) : Type 0 where
+  pub number : n ≡ nextNumber (knownIn p) ws (shotIn p) d
+  pub len : l ≡ nextLength (knownIn p) ws (shotIn p) d
+  pub bytes : d′ ≡ nextBuffer (knownIn p) ws (shotIn p) d
+  pub session : ws′ ≡ ws

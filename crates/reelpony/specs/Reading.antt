@@ -2,8 +2,8 @@
 --     heldIn ws            what the reader's eight numbers say is held: place; SPS held, width, height, colour, depth; PPS held; one that is spare. A flag is 0 or 1,
 --                          and where one is not, nothing is held
 --     turnIn               the turn of a call (crate reader, Read, over numbers)
---     numberTold, told8    an answer's number, 0 where it is no refusal, and its eight numbers: what it is (0 End, 1 SPS, 2 PPS, 3 picture, 4 refusal), offset,
---                          width, height, colour, depth, number, one that is spare; what it does not have is 0
+--     told8                an answer's eight numbers: what it is (0 End, 1 SPS, 2 PPS, 3 picture, 4 refusal), offset, width, height, colour, depth, number, one
+--                          that is spare; what it does not have is 0
 --     held8, moved8        the eight numbers of a state; those of a state that is only moved
 --     after8               the reader's eight numbers then: the place; a parameter set that is answered writes what is held anew, and nothing else does
 --     ReadsIn              what a call answers and leaves
@@ -18,7 +18,7 @@ use lib.ListN.{getD, drop}
 use Rattle.nal_unit.specs.Calls.{at, Turn, turn}
 use Rattle.ycbcr_image.specs.Sizes.{Sequence}
 use Rattle.reader.specs.Judge.{Held, nothing, Word, judge}
-use Rattle.reader.specs.Read.{Told, over, spsAt, ppsAt, pictureAt, refusedAt, told, rooms, handed, laid}
+use Rattle.reader.specs.Read.{Told, over, spsAt, ppsAt, pictureAt, refusedAt, told, numberTold, rooms, handed, laid}
 
 abbrev pub sequenceIn : List ℕ → Sequence
 sequenceIn ws = record { width = getD ws 2 0; height = getD ws 3 0; form = record { chroma = getD ws 4 0; depth = getD ws 5 0 } }
@@ -31,13 +31,6 @@ heldIn ws =
 
 abbrev pub turnIn : List ℕ → List ℕ → List ℕ → List ℕ → List ℕ → Turn Held Word
 turnIn s ws y cb cr = turn (judge (rooms y cb cr)) (heldIn ws) (drop (getD ws 0 0) s)
-
-abbrev pub numberTold : Told → ℕ
-numberTold over = 0
-numberTold (spsAt o q) = 0
-numberTold (ppsAt o) = 0
-numberTold (pictureAt o) = 0
-numberTold (refusedAt o n) = n
 
 -- a size and kind among eight numbers
 abbrev pub sized8 : ℕ → ℕ → Sequence → ℕ → ℕ → List ℕ

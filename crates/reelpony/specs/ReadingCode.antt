@@ -25,9 +25,9 @@ use Rattle.reader.specs.declared.HeldSets.{HeldSets}
 use Rattle.reader.specs.declared.Step.{Step}
 use Rattle.reader.specs.Judge.{Held, nothing, Word, sps, pps, picture, refused, possible, counted}
 use Rattle.reader.specs.Counted.{saysSet, Turned, turn-alike}
-use Rattle.reader.specs.Read.{told, toldOf, heldOf, rooms, planeLength, Reads}
+use Rattle.reader.specs.Read.{told, toldOf, numberTold, heldOf, rooms, planeLength, Reads}
 use Rattle.reelpony.specs.Numbers.{kindOf, bitDepthOf}
-use Rattle.reelpony.specs.Reading.{sequenceIn, heldIn, turnIn, numberTold, told8, sized8, held8, after8, ReadsIn}
+use Rattle.reelpony.specs.Reading.{sequenceIn, heldIn, turnIn, told8, sized8, held8, after8, ReadsIn}
 
 unfoldable pub sized : List ℕ → Bool
 sized ws = (leb (getD ws 2 0) 16384 && leb (getD ws 3 0) 16384) && (leb (getD ws 4 0) 1 && (eqb (getD ws 5 0) 8 || eqb (getD ws 5 0) 12))

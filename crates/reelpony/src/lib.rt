@@ -11,7 +11,7 @@ use ycbcr_image::Kind;
 use ycbcr_image::Session;
 ghost use mathlib.Core.Path.{_≡_};
 ghost use Rattle.encoder.specs.Answers.{numberOf, lengthOf};
-ghost use Rattle.reelpony.specs.Numbers.{colourKnown, depthKnown, known, kindOf, bitDepthOf, depthsOf, plane, shotOf, heldOf, wordsOf, wordsAfter, startNumber, startLength, startBuffer, startWords, nextNumber, nextLength, nextBuffer};
+ghost use Rattle.reelpony.specs.Numbers.{colourKnown, depthKnown, known, kindOf, bitDepthOf, depthsOf, plane, pictureIn, heldOf, wordsOf, wordsAfter, StartsIn, NextsIn};
 ghost use Rattle.reelpony.specs.Room.{roomNumber};
 
 // Whether a number is a colour.
@@ -149,10 +149,7 @@ pub extern "C" fn reelpony_start(
     session: &mut [u32; 8],
     length: &mut u64,
 ) -> u32
-    ensures number { λ r. ⌜ r ≡ startNumber (known colour «y_depth» «cb_depth» «cr_depth») (shotOf width height colour (plane (now (y .entry)) «y_stride» «y_depth») (plane (now (cb .entry)) «cb_stride» «cb_depth») (plane (now (cr .entry)) «cr_stride» «cr_depth»)) (now (out .entry)) ⌝ }
-    ensures length { λ _. ⌜ now (length .exit) ≡ startLength (known colour «y_depth» «cb_depth» «cr_depth») (shotOf width height colour (plane (now (y .entry)) «y_stride» «y_depth») (plane (now (cb .entry)) «cb_stride» «cb_depth») (plane (now (cr .entry)) «cr_stride» «cr_depth»)) (now (out .entry)) ⌝ }
-    ensures bytes { λ _. ⌜ now (out .exit) ≡ startBuffer (known colour «y_depth» «cb_depth» «cr_depth») (shotOf width height colour (plane (now (y .entry)) «y_stride» «y_depth») (plane (now (cb .entry)) «cb_stride» «cb_depth») (plane (now (cr .entry)) «cr_stride» «cr_depth»)) (now (out .entry)) ⌝ }
-    ensures session { λ _. ⌜ now (session .exit) ≡ startWords (known colour «y_depth» «cb_depth» «cr_depth») (shotOf width height colour (plane (now (y .entry)) «y_stride» «y_depth») (plane (now (cb .entry)) «cb_stride» «cb_depth») (plane (now (cr .entry)) «cr_stride» «cr_depth»)) (now (out .entry)) (now (session .entry)) ⌝ }
+    ensures { λ r. ⌜ StartsIn (pictureIn width height colour (plane (now (y .entry)) «y_stride» «y_depth») (plane (now (cb .entry)) «cb_stride» «cb_depth») (plane (now (cr .entry)) «cr_stride» «cr_depth»)) (now (out .entry)) (now (session .entry)) r (now (length .exit)) (now (out .exit)) (now (session .exit)) ⌝ }
 {
     if !all_known(colour, y_depth, cb_depth, cr_depth) {
         *length = 0;
@@ -199,10 +196,7 @@ pub extern "C" fn reelpony_next(
     session: &mut [u32; 8],
     length: &mut u64,
 ) -> u32
-    ensures number { λ r. ⌜ r ≡ nextNumber (known colour «y_depth» «cb_depth» «cr_depth») (now (session .entry)) (shotOf width height colour (plane (now (y .entry)) «y_stride» «y_depth») (plane (now (cb .entry)) «cb_stride» «cb_depth») (plane (now (cr .entry)) «cr_stride» «cr_depth»)) (now (out .entry)) ⌝ }
-    ensures length { λ _. ⌜ now (length .exit) ≡ nextLength (known colour «y_depth» «cb_depth» «cr_depth») (now (session .entry)) (shotOf width height colour (plane (now (y .entry)) «y_stride» «y_depth») (plane (now (cb .entry)) «cb_stride» «cb_depth») (plane (now (cr .entry)) «cr_stride» «cr_depth»)) (now (out .entry)) ⌝ }
-    ensures bytes { λ _. ⌜ now (out .exit) ≡ nextBuffer (known colour «y_depth» «cb_depth» «cr_depth») (now (session .entry)) (shotOf width height colour (plane (now (y .entry)) «y_stride» «y_depth») (plane (now (cb .entry)) «cb_stride» «cb_depth») (plane (now (cr .entry)) «cr_stride» «cr_depth»)) (now (out .entry)) ⌝ }
-    ensures session { λ _. ⌜ now (session .exit) ≡ now (session .entry) ⌝ }
+    ensures { λ r. ⌜ NextsIn (pictureIn width height colour (plane (now (y .entry)) «y_stride» «y_depth») (plane (now (cb .entry)) «cb_stride» «cb_depth») (plane (now (cr .entry)) «cr_stride» «cr_depth»)) (now (out .entry)) (now (session .entry)) r (now (length .exit)) (now (out .exit)) (now (session .exit)) ⌝ }
 {
     if !all_known(colour, y_depth, cb_depth, cr_depth) {
         *length = 0;

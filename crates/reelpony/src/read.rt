@@ -10,8 +10,8 @@ ghost use mathlib.Core.Path.{_≡_};
 ghost use mathlib.Core.Bool.{true, cond};
 ghost use Rattle.ycbcr_image.specs.Sizes.{sequenceOf};
 ghost use Rattle.reader.specs.Judge.{nothing, counted};
-ghost use Rattle.reader.specs.Read.{toldOf, heldOf, planeLength};
-ghost use Rattle.reelpony.specs.Reading.{sequenceIn, heldIn, numberTold, told8, sized8, held8, moved8, after8, ReadsIn};
+ghost use Rattle.reader.specs.Read.{toldOf, numberTold, heldOf, planeLength};
+ghost use Rattle.reelpony.specs.Reading.{sequenceIn, heldIn, told8, sized8, held8, moved8, after8, ReadsIn};
 ghost use Rattle.reelpony.specs.ReadingCode.{sized};
 
 // Nothing held.

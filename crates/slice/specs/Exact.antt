@@ -16,7 +16,7 @@ use lib.Arith.{digits-lt, digits-div, digits-mod}
 use Rattle.lists.specs.Every.{Below}
 use Rattle.lists.specs.Part.{part, part-at, part-length}
 use Rattle.lists.specs.Test.{either}
-use Rattle.ycbcr_image.specs.Form.{Form, mono, planes, blockHeight, blockRowBytes, blockBytes, mbBytes}
+use Rattle.ycbcr_image.specs.Form.{Form, mono, planes, blockHeight, blockRowBytes, blockBytes, mbBytes, planes-few}
 use Rattle.ycbcr_image.specs.Sizes.{Sequence, picWidthInMbs, frameHeightInMbs}
 use Rattle.ycbcr_image.specs.Accepted.{Fine}
 use Rattle.slice.specs.Digits.{high-below, low-below}
@@ -26,7 +26,6 @@ use Rattle.slice.specs.Grid.{Grid, place, posOf, tightOf, tight-length, 
 use Rattle.slice.specs.Formed.{Formed, right, right-formed, planeAt, planesFrom, planesOf, formed-payload, planes-good}
 use Rattle.slice.specs.Header.{headerOf, header-is}
 use Rattle.slice.specs.Picture.{Lend, Lends, lendAt, planeIn, planesIn, mbsIn, pictureOf, pictureLength, gridIn, offIn, Whole, size}
-use Rattle.slice.specs.Sample.{planes-few}
 
 -- planes whose rows are those that stand in X at their places, the first block behind off bytes; a row that X does not hold whole may be any
 pub data Out (hdr : List ℕ) (mw mh size : ℕ) (X : List ℕ) : ℕ → List Plane → Type 0 where

@@ -26,7 +26,7 @@ use lib.Pow.{shr-shr}
 use Rattle.lists.specs.Every.{Below, below-part}
 use Rattle.lists.specs.Part.{part, part-length, part-take, part-drop, part-left, part-all, drop-step}
 use Rattle.bits.specs.Bits.{lowBits, bitsOf, value, valueFrom, low-length, value-append, value-from, value-low, low-value, bits-length, bits-below, bits-append, bits-take}
-use Rattle.ycbcr_image.specs.Form.{Form, mono, planes, inPlane, bytesOf, subWidthC, blockWidth, blockHeight, blockRowBytes, mbBytes, planes-some, planes-colour}
+use Rattle.ycbcr_image.specs.Form.{Form, mono, planes, inPlane, bytesOf, subWidthC, blockWidth, blockHeight, blockRowBytes, mbBytes, planes-some, planes-few, planes-colour}
 use Rattle.ycbcr_image.specs.Sizes.{Sequence, picWidthInMbs, frameHeightInMbs, visibleWidth, visibleHeight, visibleRowBytes}
 use Rattle.ycbcr_image.specs.Accepted.{Fine}
 use Rattle.slice.specs.Digits.{high-below, low-below}
@@ -258,15 +258,6 @@ block-numbers {mw} {mh} f p a g my mx h l =
         let long : length (R y) ≡ blockRowBytes f p = g .has (my * blockHeight f p + y) mx (omega (arith, mul-le-mul-right (blockHeight f p) h)) l in
         sym (row-numbers d (R y) (blockWidth f p) (rw long (block-whole f p)))
         ∙ cat-same (coded d (sampleAt d (R y))) (F y) 0 0 (blockWidth f p) (λ c b. ap (lowBits d) (sample-row f p a (my * blockHeight f p + y) mx (0 + c) (omega arith)))
-
--- there are at most three planes
-pub planes-few : (f : Form) → planes f ≤ 3
-unfolding planes
-planes-few f = go (mono f)
-  where
-    go : (b : Bool) → cond b 1 3 ≤ 3
-    go true = omega arith
-    go false = omega arith
 
 -- ---- the samples of a macroblock (7.3.5)
 

@@ -10,13 +10,13 @@ use mathlib.Core.Bool.{true}
 use Prim.Native.Nat.{ℕ, suc, _+_, _-_, _≤_}
 use native.Mathlib.Omega.{arith}
 use lib.ListN.{length, take, drop, replicate, take-append-drop}
-use lib.Seq.{drop-drop, drop-append-add, length-take-le, take-append-add}
+use lib.Seq.{drop-drop, drop-append-add, length-take-le}
 use Rattle.lists.specs.Part.{part, part-length, part-rest}
 use Rattle.nal_unit.specs.StartCode.{startCode, code, next, code-start, code-fits}
 use Rattle.nal_unit.specs.Walk.{calm-nil, calm-start, meet-nil}
 use Rattle.nal_unit.specs.Calls.{Say, ended, answers, after, answers-ans, answers-add, after-add, align, at-end}
 use Rattle.nal_unit.specs.Frame.{joined, joined-append, joined-tail, joined-more, placeBy, place-joined, heldBy, frame, goes-full}
-use Rattle.nal_unit.specs.Damage.{moved, before, damage-full, onward}
+use Rattle.nal_unit.specs.Damage.{moved, front, before, damage-full, onward}
 use Rattle.nal_unit.specs.Window.{Withins, after-frame, answers-within}
 use Rattle.ycbcr_image.specs.Sizes.{Sequence}
 use Rattle.encoder.specs.Shot.{Shot, lendsOf, sequenceIn}
@@ -27,23 +27,11 @@ use Rattle.take.specs.Judged.{having}
 use Rattle.take.specs.Take.{Take, Frames, frames, frames-both, units-both, sizeOf, setsAnd, bytesOf, pictureUnits, pictureWords, bytes-units}
 use Rattle.take.specs.Reading.{listed, fits, full, sets-goes, sets-said, sets-held, pictures-said, pictures-whole}
 use Rattle.take.specs.Promises.{replaced}
-use Rattle.take.specs.Host.{Call, Runs, Lends, Gets, fresh, runs-get}
+use Rattle.take.specs.Host.{Host, Call, Runs, served, Gets, fresh-get}
 
 -- where the zero before the next start code stands
 abbrev pub behind : Take → List Shot → ℕ
 behind T ss = placeBy 0 (setsAnd (sizeOf T) ss)
-
--- bytes of units in a row that reach behind the start code of the next one
-front : (us : List (List ℕ)) (y : List ℕ) (i : ℕ) → placeBy 0 us + 4 ≤ i
-    → (x : List ℕ) × (take i (joined us (0 ∷ startCode y)) ≡ joined us (0 ∷ startCode x))
-front us y i l =
-    let n : i ≡ length (joined us []) + suc (suc (suc (suc (i - (placeBy 0 us + 4))))) = omega (arith, place-joined 0 us) in (
-      take (i - (placeBy 0 us + 4)) y,
-      ap (λ (k : ℕ). take k (joined us (0 ∷ startCode y))) n
-          ∙ (ap (λ (s : List ℕ). take (length (joined us []) + suc (suc (suc (suc (i - (placeBy 0 us + 4)))))) s) (joined-tail us (0 ∷ startCode y))
-          ∙ (take-append-add (joined us []) (0 ∷ startCode y) (suc (suc (suc (suc (i - (placeBy 0 us + 4))))))
-          ∙ sym (joined-tail us (0 ∷ startCode (take (i - (placeBy 0 us + 4)) y))))),
-    )
 
 count : (ss : List Shot) → length (pictureUnits ss) ≡ length ss
 unfolding pictureUnits
@@ -173,9 +161,9 @@ damaged T A B s C i j m e l a b =
           ∙ rw (said, first, answers-add plain D n (length (s ∷ C) + c) h (behind T A + 1), arrives, tail c) refl;
     }
 
--- The same for the code: what any calls of `read` over the damaged take answer and leave, each with planes that are long enough.
-pub host-damaged : (T : Take) (A B : List Shot) (s : Shot) (C : List Shot) (i j : ℕ) (m : List ℕ) (d : Damaged T A B s C i j m) (cs : List Call) (c : ℕ)
-    → Lends fresh cs → Runs (replaced (bytesOf T) i j m) fresh cs → length cs ≡ length (setsAnd (sizeOf T) A) + (d .n + (length (s ∷ C) + c))
-    → Gets cs (listed 0 (setsAnd (sizeOf T) A) (sps (sizeOf T) ∷ pps ∷ pictureWords A)
+-- The same for the code: what any calls over the damaged take answer and leave that were served.
+pub host-damaged : (H : Host) (T : Take) (A B : List Shot) (s : Shot) (C : List Shot) (i j : ℕ) (m : List ℕ) (d : Damaged T A B s C i j m) (cs : List (Call H)) (c : ℕ)
+    → Runs H (replaced (bytesOf T) i j m) (H .fresh) cs → length (served H cs) ≡ length (setsAnd (sizeOf T) A) + (d .n + (length (s ∷ C) + c))
+    → Gets H (served H cs) (listed 0 (setsAnd (sizeOf T) A) (sps (sizeOf T) ∷ pps ∷ pictureWords A)
     ++ (d .between ++ (map (moved (j - i) (length m)) (listed (behind T (A ++ B)) (pictureUnits (s ∷ C)) (pictureWords (s ∷ C)) ++ replicate c ended))))
-host-damaged T A B s C i j m d cs c l g z = rw (z, d .reads c) at (runs-get (replaced (bytesOf T) i j m) fresh cs l g)
+host-damaged H T A B s C i j m d cs c g z = rw (z, d .reads c) at (fresh-get H (replaced (bytesOf T) i j m) cs g)

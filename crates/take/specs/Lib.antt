@@ -12,6 +12,7 @@ pub mod OneAnswer
 pub mod Ends
 pub mod Damaged
 pub mod Numbers
+pub mod InC
 pub mod Exhibit
 pub mod Shams
 pub mod Guard

@@ -11,8 +11,8 @@ use native.Mathlib.Omega.{arith}
 use lib.ListN.{length, drop, replicate}
 use Rattle.nal_unit.specs.Calls.{ended, answers}
 use Rattle.slice.specs.Picture.{lendAt}
-use Rattle.slice.specs.Sample.{sampleIn, tight, planes-few, visible-front}
-use Rattle.ycbcr_image.specs.Form.{planes}
+use Rattle.slice.specs.Sample.{sampleIn, tight, visible-front}
+use Rattle.ycbcr_image.specs.Form.{planes, planes-few}
 use Rattle.ycbcr_image.specs.Sizes.{Sequence, visibleWidth, visibleHeight}
 use Rattle.encoder.specs.Shot.{Shot, lendsOf, sequenceIn, shot-whole}
 use Rattle.encoder.specs.Units.{pictureUnit}
@@ -21,7 +21,7 @@ use Rattle.reader.specs.Enough.{plain}
 use Rattle.take.specs.Take.{Take, sizeOf, bytesOf, unitsOf, wordsOf, samplesOf, pictureUnits, pictureWords, Framed, Frames, frames}
 use Rattle.take.specs.Reading.{listed}
 use Rattle.take.specs.Promises.{round-trip}
-use Rattle.take.specs.Host.{Call, Runs, Lends, Gets, fresh, host-round-trip}
+use Rattle.take.specs.Host.{Host, Call, Runs, served, Gets, host-round-trip}
 
 -- plane p of the samples handed out
 abbrev pub samplesAt : Samples → ℕ → List ℕ
@@ -77,27 +77,27 @@ numbers T k =
     (map samplesOf ss, all-same (sizeOf T) ss (frames T), round-trip T k ∙ ap (λ (ws : List Word). listed 0 (unitsOf T) (sps (sizeOf T) ∷ pps ∷ ws) ++ replicate k ended) (words-are ss))
 
 -- the planes after a call
-abbrev pub after : Call → Samples
-after c = record { y = c .y′; cb = c .cb′; cr = c .cr′ }
+abbrev pub after : {H : Host} → Call H → Samples
+after c = c .planes
 
-after-same : (q : Sequence) (p : ℕ) (ss : List Shot) (cs : List Call) → Frames q ss → Gets cs (listed p (pictureUnits ss) (pictureWords ss)) → Sames ss (map after cs)
+after-same : (H : Host) (q : Sequence) (p : ℕ) (ss : List Shot) (cs : List (Call H)) → Frames q ss → Gets H cs (listed p (pictureUnits ss) (pictureWords ss)) → Sames ss (map after cs)
 unfolding listed pictureUnits pictureWords
-after-same q p [] [] f g = tt
-after-same q p [] (c ∷ cs) f g = absurd g
-after-same q p (s ∷ ss) [] f g = absurd g
-after-same q p (s ∷ ss) (c ∷ cs) f g = (
+after-same H q p [] [] f g = tt
+after-same H q p [] (c ∷ cs) f g = absurd g
+after-same H q p (s ∷ ss) [] f g = absurd g
+after-same H q p (s ∷ ss) (c ∷ cs) f g = (
   rw (g .0 .in-y, g .0 .in-cb, g .0 .in-cr) (one-same s (f .0) _ _ _),
-  after-same q (p + 4 + length (pictureUnit (sequenceIn s) (lendsOf s))) ss cs (f .1) (g .1),
+  after-same H q (p + 4 + length (pictureUnit (sequenceIn s) (lendsOf s))) ss cs (f .1) (g .1),
 )
 
--- Any calls of `read` over an accepted take, one for each of its units, from its first byte with nothing held, each with planes that are long enough: behind
--- the first two, which answer the parameter sets, each leaves in the planes the numbers of the next picture, at each visible row and column.
-pub host-numbers : (T : Take) (cs : List Call) → Lends fresh cs → Runs (bytesOf T) fresh cs
-    → length cs ≡ length (unitsOf T) → Sames (T .first ∷ T .others) (map after (drop 2 cs))
+-- Any calls over an accepted take, from its first byte with nothing held, of which one for each of its units was served: behind the first two of these, which
+-- answer the parameter sets, each leaves in the planes the numbers of the next picture, at each visible row and column.
+pub host-numbers : (H : Host) (T : Take) (cs : List (Call H)) → Runs H (bytesOf T) (H .fresh) cs
+    → length (served H cs) ≡ length (unitsOf T) → Sames (T .first ∷ T .others) (map after (drop 2 (served H cs)))
 unfolding listed
-host-numbers T cs l g m = go cs (rw (append-nil (listed 0 (unitsOf T) (wordsOf T))) at (host-round-trip T cs 0 l g (m ∙ sym (add-zero (length (unitsOf T))))))
+host-numbers H T cs g m = go (served H cs) (rw (append-nil (listed 0 (unitsOf T) (wordsOf T))) at (host-round-trip H T cs 0 g (m ∙ sym (add-zero (length (unitsOf T))))))
   where
-    go : (cs : List Call) → Gets cs (listed 0 (unitsOf T) (wordsOf T)) → Sames (T .first ∷ T .others) (map after (drop 2 cs))
+    go : (cs : List (Call H)) → Gets H cs (listed 0 (unitsOf T) (wordsOf T)) → Sames (T .first ∷ T .others) (map after (drop 2 cs))
     go [] h = absurd h
     go (a ∷ []) h = absurd (h .1)
-    go (a ∷ b ∷ cs) h = after-same (sizeOf T) _ (T .first ∷ T .others) cs (frames T) (h .1 .1)
+    go (a ∷ b ∷ cs) h = after-same H (sizeOf T) _ (T .first ∷ T .others) cs (frames T) (h .1 .1)

@@ -14,14 +14,14 @@ use native.Mathlib.Omega.{arith}
 use lib.Dec.{leb}
 use borrow.Author.Tests.{le-leb, lt-leb}
 use lib.ListN.{length, take, drop, replicate, length-append, take-append-drop}
-use lib.Seq.{drop-drop, length-take-le, take-append-add}
+use lib.Seq.{drop-drop, length-take-le}
 use Rattle.lists.specs.Part.{part, part-length, part-rest}
 use Rattle.nal_unit.specs.StartCode.{startCode, code, code-fits}
 use Rattle.nal_unit.specs.Calls.{Verdict, Say, ended, said, answers}
 use Rattle.nal_unit.specs.Frame.{joined, reads, says, heldBy, placeBy, place-joined, joined-append, joined-tail}
 use Rattle.nal_unit.specs.Cut as C
 use Rattle.nal_unit.specs.Cut.{kept, broken, cut-exact, all, within, told, Moves}
-use Rattle.nal_unit.specs.Damage.{moved, damage-reads}
+use Rattle.nal_unit.specs.Damage.{moved, front, damage-reads}
 use Rattle.encoder.specs.Shot.{lendsOf}
 use Rattle.encoder.specs.Units.{spsUnit, ppsUnit, pictureUnit}
 use Rattle.reader.specs.Judge.{Held, nothing, Word}
@@ -110,23 +110,10 @@ pictureCode T = length (joined (spsUnit (sizeOf T) ∷ ppsUnit ∷ []) []) + 4
 unfoldable pub replaced : List ℕ → ℕ → ℕ → List ℕ → List ℕ
 replaced s i j m = take i s ++ (m ++ drop j s)
 
--- so many bytes of a take hold both parameter sets and the first picture's start code
-front-at : (T : Take) (r : ℕ) → take (length (joined (spsUnit (sizeOf T) ∷ ppsUnit ∷ []) []) + suc (suc (suc (suc r)))) (bytesOf T)
-    ≡ joined (spsUnit (sizeOf T) ∷ ppsUnit ∷ []) (0 ∷ startCode (take r (pictureUnit (sizeOf T) (lendsOf (T .first)) ++ joined (pictureUnits (T .others)) [])))
+-- a take by its parameter sets and the bytes behind the first picture's start code
+first-coded : (T : Take) → bytesOf T ≡ joined (spsUnit (sizeOf T) ∷ ppsUnit ∷ []) (0 ∷ startCode (pictureUnit (sizeOf T) (lendsOf (T .first)) ++ joined (pictureUnits (T .others)) []))
 unfolding pictureUnits joined
-front-at T r =
-    let sets = spsUnit (sizeOf T) ∷ ppsUnit ∷ [] in
-    let u = pictureUnit (sizeOf T) (lendsOf (T .first)) in
-    let y = u ++ joined (pictureUnits (T .others)) [] in
-    rw (bytes-units T, joined-append sets (u ∷ pictureUnits (T .others)) [], joined-tail sets (0 ∷ startCode y), take-append-add (joined sets []) (0 ∷ startCode y) (suc (suc (suc (suc r)))))
-    (sym (joined-tail sets (0 ∷ startCode (take r y))))
-
-front : (T : Take) (i : ℕ) → pictureCode T ≤ i → (x : List ℕ) × (take i (bytesOf T) ≡ joined (spsUnit (sizeOf T) ∷ ppsUnit ∷ []) (0 ∷ startCode x))
-unfolding pictureCode
-front T i l =
-    let F : ℕ = length (joined (spsUnit (sizeOf T) ∷ ppsUnit ∷ []) []) in
-    let n : i ≡ F + suc (suc (suc (suc (i - (F + 4))))) = omega arith in
-    (take (i - (F + 4)) (pictureUnit (sizeOf T) (lendsOf (T .first)) ++ joined (pictureUnits (T .others)) []), ap (λ (k : ℕ). take k (bytesOf T)) n ∙ front-at T (i - (F + 4)))
+first-coded T = bytes-units T ∙ joined-append (spsUnit (sizeOf T) ∷ ppsUnit ∷ []) (pictureUnit (sizeOf T) (lendsOf (T .first)) ∷ pictureUnits (T .others)) []
 
 -- Replace any stretch of a take behind the first picture's start code, the bytes from i up to j, by anything, m; and take any start code that stands wholly
 -- behind it, at k. The reader, from the first byte with nothing held, arrives there after some calls, n; and from there on it answers, however often it is
@@ -134,11 +121,13 @@ front T i l =
 pub damage : (T : Take) (i j k : ℕ) (m : List ℕ) → pictureCode T ≤ i → i ≤ j → j ≤ k → code (drop k (bytesOf T)) ≡ true
     → (n : ℕ) × ((c : ℕ) → answers plain (replaced (bytesOf T) i j m) (n + c) nothing 0
     ≡ answers plain (replaced (bytesOf T) i j m) n nothing 0 ++ map (moved (j - i) (length m)) (answers plain (bytesOf T) c (having (sizeOf T) true) k))
-unfolding replaced pictureUnits
+unfolding replaced pictureCode pictureUnits
 damage T i j k m l a b c =
     let s = bytesOf T in
     let h = sets-held T [] in
-    let f = front T i l in
+    let sets = spsUnit (sizeOf T) ∷ ppsUnit ∷ [] in
+    let f = front sets (pictureUnit (sizeOf T) (lendsOf (T .first)) ++ joined (pictureUnits (T .others)) []) i (omega (arith, place-joined 0 sets)) in
+    let g : take i s ≡ joined sets (0 ∷ startCode (f .0)) = ap (λ (y : List ℕ). take i y) (first-coded T) ∙ f .1 in
     let long : k + 3 ≤ length s = code-fits s k c in
     let t : length (take i s) ≡ i = length-take-le i s (omega arith) in
     let d : length (part s i (j - i)) ≡ j - i = part-length s i (j - i) (omega arith) in
@@ -148,5 +137,5 @@ damage T i j k m l a b c =
     let v : drop i s ≡ part s i (j - i) ++ drop j s = rw x at (part-rest s i (j - i)) in
     let w : take i s ++ (part s i (j - i) ++ drop j s) ≡ s = rw v at (take-append-drop i s) in
     let o : code (drop (k - j) (drop j s)) ≡ true = rw (drop-drop (k - j) j s) (rw y c) in
-    let r = damage-reads plain (spsUnit (sizeOf T) ∷ ppsUnit ∷ []) (take i s) (f .0) (part s i (j - i)) m (drop j s) nothing (k - j) (f .1) (sets-goes T [] tt) (rw h (full (sizeOf T) (fits T))) o in
+    let r = damage-reads plain sets (take i s) (f .0) (part s i (j - i)) m (drop j s) nothing (k - j) g (sets-goes T [] tt) (rw h (full (sizeOf T) (fits T))) o in
     rw (t, d, w, z, h) at r

@@ -7,7 +7,7 @@ use mathlib.Core.Option.{Option, none, some}
 use Prim.Native.Nat.{ℕ, _+_}
 use lib.Dec.{ltb, eqb}
 use lib.ListN.{length}
-use Rattle.lists.specs.Test.{same}
+use Rattle.lists.specs.Test.{same, by-test}
 use Rattle.nal_unit.specs.Unescape.{un, fault}
 use Rattle.nal_unit.specs.Walk.{Whole}
 use Rattle.nal_unit.specs.Calls.{Verdict, Say, said, Full}
@@ -50,34 +50,30 @@ module _ (q : Sequence) (e : possible q ≡ true) where
   kept : (w : Word) → Keeps (keep h w)
   kept w = record { holds = refl; moves = refl }
 
-  keeps-if : (b : Bool) {v w : Verdict Held Word} → Keeps v → Keeps w → Keeps (cond b v w)
-  keeps-if true x y = x
-  keeps-if false x y = y
-
   keeps-sps : (r : Option Sequence) → Keeps (spsVerdict h h r)
   unfolding spsVerdict
   keeps-sps none = kept (refused 14)
-  keeps-sps (some i) = keeps-if (sessionBad q i) (kept (refused 15)) (kept (sps i))
+  keeps-sps (some i) = by-test Keeps (sessionBad q i) (kept (refused 15)) (kept (sps i))
 
   keeps-pps : (X : List ℕ) → Keeps (ppsVerdict h h X)
   unfolding ppsVerdict
-  keeps-pps X = keeps-if (same X ppsPayload) (record { holds = refl; moves = refl }) (kept (refused 14))
+  keeps-pps X = by-test Keeps (same X ppsPayload) (record { holds = refl; moves = refl }) (kept (refused 14))
 
   keeps-picture : (X : List ℕ) → Keeps (pictureVerdict room h q X)
   unfolding pictureVerdict
   keeps-picture X =
       rw (enough-long room h q (enough-own h) (held-is q true e))
-      (keeps-if (ltb (length X) (P.pictureLength q)) (kept (refused 17))
-      (keeps-if (J.formless q X) (kept (refused 18)) (kept (picture (J.samplesOf q X)))))
+      (by-test Keeps (ltb (length X) (P.pictureLength q)) (kept (refused 17))
+      (by-test Keeps (J.formless q X) (kept (refused 18)) (kept (picture (J.samplesOf q X)))))
 
   keeps-unit : (x : ℕ) (X : List ℕ) → Keeps (unitVerdict room h x X)
   unfolding unitVerdict heldVerdict
-  keeps-unit x X = rw (counted-is q true e) (keeps-if (eqb x 0x67) (keeps-sps (readSps baseLevel X)) (keeps-if (eqb x 0x68) (keeps-pps X) (keeps-if (eqb x 0x25) (keeps-picture X) (kept (refused 13)))))
+  keeps-unit x X = rw (counted-is q true e) (by-test Keeps (eqb x 0x67) (keeps-sps (readSps baseLevel X)) (by-test Keeps (eqb x 0x68) (keeps-pps X) (by-test Keeps (eqb x 0x25) (keeps-picture X) (kept (refused 13)))))
 
   keeps : (u : List ℕ) → Keeps (judge room h u)
   unfolding judge
   keeps [] = kept (refused 11)
-  keeps (x ∷ t) = keeps-if (fault (x ∷ t)) (kept (refused 12)) (keeps-unit x (un t))
+  keeps (x ∷ t) = by-test Keeps (fault (x ∷ t)) (kept (refused 12)) (keeps-unit x (un t))
 
   -- with both sets held, no unit changes what is held, and no call keeps its place
   pub full : Full plain h

@@ -31,7 +31,7 @@ use Rattle.encoder.specs.declared.Encoded.{Encoded}
 use Rattle.encoder.specs.declared.Encoded.the-variants.{Written, NoRoom}
 use Rattle.encoder.specs.Shot.{Shot, imageOf, lendsOf, sequenceIn}
 use Rattle.encoder.specs.Units.{startBytes, nextBytes}
-use Rattle.encoder.specs.Answers.{numberOf, lengthOf, answerOf, startOf, startOut, nextOf, nextOut}
+use Rattle.encoder.specs.Answers.{numberOf, lengthOf, answerOf, zero-written, startOf, startOut, nextOf, nextOut}
 use Rattle.reader.specs.declared.HeldSps.{HeldSps}
 use Rattle.reader.specs.declared.HeldSps.the-variants.{Missing, Size}
 use Rattle.reader.specs.declared.Reader.{Reader}
@@ -203,14 +203,8 @@ alike : {a b : List ℕ} (i x y : ℕ) → a ≡ b → getD a i 0 ≡ x → getD
 alike i x y e f g = sym f ∙ (ap (λ (l : List ℕ). getD l i 0) e ∙ g)
 
 -- an accepted answer has the length of its bytes
-accepted-length : (r : ℕ) (s : Session) (b : List ℕ) (n : ℕ) → numberOf (answerOf r s b n) ≡ 0 → lengthOf (answerOf r s b n) ≡ length b
-unfolding answerOf
-accepted-length zero s b n = go (leb (length b) n)
-  where
-    go : (c : Bool) → numberOf (cond c (Written s (length b)) (NoRoom (length b))) ≡ 0 → lengthOf (cond c (Written s (length b)) (NoRoom (length b))) ≡ length b
-    go true e = refl
-    go false e = refl
-accepted-length (suc r) s b n = rw (ne-eqb (suc r) 0 (λ e. omega arith)) (λ e. absurd (omega arith))
+accepted-length : (r : ℕ) (s : Session) (w d : List ℕ) → numberOf (answerOf r s w (length d)) ≡ 0 → lengthOf (answerOf r s w (length d)) ≡ length w
+accepted-length r s w d e = ap lengthOf (zero-written r s w d e)
 
 -- the take of one picture, from its first byte on and from the second unit's start code on
 abbrev q : Sequence
@@ -312,8 +306,8 @@ pub no-other-length : (w : Writer) → (OtherLength (λ p. startBytes (sequenceI
     × ((s : Session) → OtherLength (λ p. nextBytes (sequenceIn p) (lendsOf p)) w → MeetsNext s w → ⊥)
 unfolding startOf nextOf
 no-other-length w = (
-  λ r m. r .2 (ap lengthOf (m (r .0) .0) ∙ accepted-length _ _ _ _ (sym (ap numberOf (m (r .0) .0)) ∙ r .1)),
-  λ s r m. r .2 (ap lengthOf (m (r .0) .0) ∙ accepted-length _ _ _ _ (sym (ap numberOf (m (r .0) .0)) ∙ r .1)),
+  λ r m. r .2 (ap lengthOf (m (r .0) .0) ∙ accepted-length _ _ _ (r .0 .out) (sym (ap numberOf (m (r .0) .0)) ∙ r .1)),
+  λ s r m. r .2 (ap lengthOf (m (r .0) .0) ∙ accepted-length _ _ _ (r .0 .out) (sym (ap numberOf (m (r .0) .0)) ∙ r .1)),
 )
 
 -- The contracts are met: by the definitions.

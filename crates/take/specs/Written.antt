@@ -1,26 +1,23 @@
 -- What a host has written that calls the proved functions `start` and `next`, every next call with the session that the call before it left: a take.
 --     Wrote            an accepted call: the picture, the output lent, the session that it left, the length written
 --     Shoot, fileOf    the calls, and the bytes that they wrote, one behind the other
---     takeOf, file-is  they are a take, and the file is its bytes
+--     takeOf, file-is  they are a take, of the pictures given (take-shots), and the file is its bytes
 -- Assumes nothing.
 use mathlib.Core.Path.{_≡_, refl, sym, ap, _∙_}
 use mathlib.Core.List.{List, [], _∷_, _++_}
-use mathlib.Core.Bool.{Bool, true, false, true≢false}
 use Prim.Native.Nat.{ℕ}
 use native.Mathlib.Omega.{arith}
-use lib.Dec.{eqb, leb}
 use lib.ListN.{length, take, drop}
 use lib.Seq.{take-at}
-use borrow.Author.Tests.{eqb-true, eq-eqb}
 use Rattle.ycbcr_image.specs.declared.Session.{Session}
 use Rattle.ycbcr_image.specs.Sizes.{Sequence, sequenceOf}
 use Rattle.ycbcr_image.specs.Refusals.{sessionOf, refusalOf, refusalNext}
 use Rattle.ycbcr_image.specs.Passed.{passed-next}
 use Rattle.encoder.specs.declared.Encoded.{Encoded}
-use Rattle.encoder.specs.declared.Encoded.the-variants.{Written, NoRoom, Refused}
+use Rattle.encoder.specs.declared.Encoded.the-variants.{Written}
 use Rattle.encoder.specs.Shot.{Shot, imageOf, lendsOf, sequenceIn}
 use Rattle.encoder.specs.Units.{startBytes, nextBytes}
-use Rattle.encoder.specs.Answers.{numberOf, lengthOf, sessionAfter, answerOf, outOf, startOf, startOut, nextOf, nextOut}
+use Rattle.encoder.specs.Answers.{numberOf, lengthOf, sessionAfter, answerOf, outOf, Outcome, accepted, lacking, refused, outcome, startOf, startOut, nextOf, nextOut}
 use Rattle.take.specs.Take.{Follows, Take, nextsBytes, bytesOf}
 
 pub record Wrote : Type 0 where
@@ -47,7 +44,8 @@ nextsFile s (c ∷ cs) = take (c .len) (nextOut s (c .shot) (c .out)) ++ nextsFi
 unfoldable pub fileOf : Shoot → List ℕ
 fileOf S = take (S .first .len) (startOut (S .first .shot) (S .first .out)) ++ nextsFile (S .first .session) (S .others)
 
-abbrev shotsIn : List Wrote → List Shot
+-- their pictures
+abbrev pub shotsIn : List Wrote → List Shot
 shotsIn [] = []
 shotsIn (c ∷ cs) = c .shot ∷ shotsIn cs
 
@@ -58,22 +56,20 @@ record Accepted (r : ℕ) (s : Session) (w d : List ℕ) (t : Session) (n : ℕ)
   bytes : take n (outOf r w d) ≡ w
 
 written : (r : ℕ) (s : Session) (w d : List ℕ) {t : Session} {n : ℕ} → answerOf r s w (length d) ≡ Written t n → Accepted r s w d t n
-unfolding answerOf outOf
-written r s w d {t} {n} e = go (eqb r 0) (leb (length w) (length d)) refl refl
+written r s w d {t} {n} e = go (outcome r s w d)
   where
-    go : (b c : Bool) → eqb r 0 ≡ b → leb (length w) (length d) ≡ c → Accepted r s w d t n
-    go true true i j =
-        let k : Written s (length w) ≡ Written t n = rw (i, j) at e in
-        let l : length w ≡ n = ap lengthOf k in
-        record { none = eqb-true r 0 i; same = sym (ap (λ (x : Encoded). sessionAfter x s) k); bytes = rw (i, j) (take-at w (drop (length w) d) n l) }
-    go true false i j =
-        let k : NoRoom (length w) ≡ Written t n = rw (i, j) at e in
-        let z : _≡_ {A = ℕ} 9 0 = ap numberOf k in
+    z : numberOf (answerOf r s w (length d)) ≡ 0
+    z = ap numberOf e
+
+    go : Outcome r s w d → Accepted r s w d t n
+    go (accepted i l a o) =
+        let k : Written s (length w) ≡ Written t n = sym a ∙ e in
+        let m : length w ≡ n = ap lengthOf k in
+        record { none = i; same = sym (ap (λ (x : Encoded). sessionAfter x s) k); bytes = rw o (take-at w (drop (length w) d) n m) }
+    go (lacking i l a o) =
+        let k : _≡_ {A = ℕ} 9 0 = sym (ap numberOf a) ∙ z in
         absurd (omega arith)
-    go false c i j =
-        let k : Refused r ≡ Written t n = rw i at e in
-        let z : r ≡ 0 = ap numberOf k in
-        absurd (true≢false (sym (eq-eqb r 0 z) ∙ i))
+    go (refused i a o) = absurd (i (sym (ap numberOf a) ∙ z))
 
 next-written : (s : Session) (c : Wrote) → nextOf s (c .shot) (c .out) ≡ Written (c .session) (c .len)
     → Accepted (refusalNext (sequenceOf s) (imageOf (c .shot))) s (nextBytes (sequenceIn (c .shot)) (lendsOf (c .shot))) (c .out) (c .session) (c .len)
@@ -101,6 +97,11 @@ pub takeOf : Shoot → Take
 takeOf S =
     let w = start-written S in
     record { first = S .first .shot; others = shotsIn (S .others); starts = w .none; follows = nexts-follow (S .first .session) (sequenceIn (S .first .shot)) (S .others) (ap sequenceOf (w .same)) (S .went) }
+
+-- its pictures are those that the calls were given
+pub take-shots : (S : Shoot) → (takeOf S .first ≡ S .first .shot) × (takeOf S .others ≡ shotsIn (S .others))
+unfolding takeOf
+take-shots S = (refl, refl)
 
 -- What was written is a take's bytes: whatever the promises say of a take, they say of this file.
 pub file-is : (S : Shoot) → fileOf S ≡ bytesOf (takeOf S)

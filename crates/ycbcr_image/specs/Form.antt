@@ -156,6 +156,15 @@ unfolding blockHeight inPlane subHeightC
 block-high-most f zero = omega arith
 block-high-most f (suc p) = side-most (mono f) (eqb (f .chroma) 1)
 
+-- there are at most three planes
+pub planes-few : (f : Form) → planes f ≤ 3
+unfolding planes
+planes-few f = go (mono f)
+  where
+    go : (b : Bool) → cond b 1 3 ≤ 3
+    go true = omega arith
+    go false = omega arith
+
 -- a plane that is there has a block
 pub block-wide-some : (f : Form) (p : ℕ) → p < planes f → 8 ≤ blockWidth f p
 unfolding planes blockWidth inPlane subWidthC
