@@ -1,5 +1,7 @@
 // Bits of a lent buffer, the most significant of each byte first: the role of BitVec<u8, Msb0> in the Rust. A bit's place is
 // counted from the buffer's first bit. What is public here is a leaf for proved callers; codes with refusals stand in golomb.
+#![tactic(auto)]
+
 ghost use Rattle.std.specs.Prelude.{◌≡◌, ◌+◌, ◌*◌, ◌≤◌, ◌<◌, length, get_or, set};
 ghost use Rattle.lists.specs.Part.{part};
 ghost use Rattle.bits.specs.Bits.{low_bits, bits_of, value, bit_count, room_for, BitsPut};

@@ -1,5 +1,6 @@
 // The writer (encoder.rs: LessEncoder). A start call writes the parameter sets and the first picture and leaves a session; a next call writes one more
 // picture. Both write one lent output from its first byte on. The Rust's LessEncoder is the session, which a call takes and answers by value.
+#![tactic(auto)]
 ghost use Rattle.std.specs.Prelude.{◌≡◌, true, ◌+◌, ◌≤◌, length};
 ghost use Rattle.ycbcr_image.specs.Sizes.{sequence_of};
 ghost use Rattle.ycbcr_image.specs.Refusals.{accepted};
@@ -19,7 +20,7 @@ use ycbcr_image::{BitDepth, DataPlane, Kind, Session, YCbCrImage};
 const SETS_MOST: usize = 64;
 
 // The bits of a sample in each lent plane.
-#[derive(Drop)]
+#[derive(Clone, Copy)]
 pub struct Depths {
     pub y: BitDepth,
     pub cb: BitDepth,
@@ -28,7 +29,7 @@ pub struct Depths {
 
 // The answer of a call: the session that it leaves and the length written; that the output is too short (9), and the length needed; or the
 // refusal, 1 to 8.
-#[derive(Drop)]
+#[derive(Clone, Copy)]
 pub enum Encoded {
     Written(Session, usize),
     NoRoom(usize),

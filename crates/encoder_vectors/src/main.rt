@@ -1,5 +1,6 @@
 // Runs the writer's start and next calls with the pictures of 01, at each limit, with each fault, and with the pictures of a list that the Rust
 // encoded, and prints what was compared.
+#![tactic(auto)]
 mod call;
 mod count;
 mod limits;

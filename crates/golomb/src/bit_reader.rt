@@ -5,7 +5,7 @@ ghost use Rattle.golomb.specs.Answers.{read_ue, read_se, read_u};
 
 use crate::{BitsRead, SeRead, UeRead};
 
-#[derive(Drop)]
+#[derive(Clone, Copy)]
 pub struct BitReader<'a> {
     pub payload: &'a [u8],
     pub place: usize,

@@ -1,5 +1,6 @@
 // Exp-Golomb codes (golomb.rs; ITU-T H.264 9.1) at a bit place of a lent buffer. BitVec becomes the lent bytes with a place;
 // what the Rust cannot code, or finds no room for, is refused.
+#![tactic(auto)]
 ghost use Rattle.std.specs.Prelude.{◌≡◌, true, ◌+◌, ◌-◌, ◌≤◌, ◌^◌, min, nat_abs, length};
 ghost use Rattle.bits.specs.Bits.{bits_from, bit_count, BitsPut};
 ghost use Rattle.golomb.specs.Code.{num_bits, ue};
@@ -11,7 +12,7 @@ ghost use Rattle.golomb.specs.Answers.{write_of, buffer_of, has_ue, has_se, read
 pub mod bit_reader;
 
 // The answer of a call that writes a code: the place behind it, or a refusal that changes nothing.
-#[derive(Drop)]
+#[derive(Clone, Copy)]
 pub enum CodeWritten {
     Behind(usize),
     NoCode,
@@ -19,21 +20,21 @@ pub enum CodeWritten {
 }
 
 // The answer of a call that reads an unsigned code: the number and the place behind the code, or a refusal.
-#[derive(Drop)]
+#[derive(Clone, Copy)]
 pub enum UeRead {
     Number(u32, usize),
     NoCode,
 }
 
 // The same of a signed code.
-#[derive(Drop)]
+#[derive(Clone, Copy)]
 pub enum SeRead {
     Number(i32, usize),
     NoCode,
 }
 
 // The same of plain bits.
-#[derive(Drop)]
+#[derive(Clone, Copy)]
 pub enum BitsRead {
     Number(u64, usize),
     NoCode,

@@ -1,5 +1,6 @@
 // Runs golomb against the vectors of golomb.rs, the limits of the codes, and a list of codes that the Rust wrote, and prints
 // what was compared.
+#![tactic(auto)]
 mod code;
 mod count;
 mod limits;

@@ -7,7 +7,7 @@ ghost use Rattle.nal_unit.specs.CountCode.{Counts};
 use crate::calm;
 
 // A stretch of payload: the bytes that its escape has, and the zero bytes counted behind it.
-#[derive(Drop)]
+#[derive(Clone, Copy)]
 pub struct Count {
     pub n: usize,
     pub z: usize,

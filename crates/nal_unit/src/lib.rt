@@ -1,4 +1,5 @@
 // Units of the byte stream (nal_unit.rs; ITU-T H.264 7.3.1, 7.4.1 and Annex B): escaping and unescaping, framing, start codes, units.
+#![tactic(auto)]
 pub mod calm;
 pub mod count;
 pub mod fast;
@@ -14,7 +15,7 @@ ghost use Rattle.nal_unit.specs.Escape.{esc};
 ghost use Rattle.nal_unit.specs.Answers.{escaped_of, escaped_out};
 
 // The answer of escaping: the length written, or that the output has no room (21).
-#[derive(Drop)]
+#[derive(Clone, Copy)]
 pub enum Escaped {
     Written(usize),
     NoRoom,

@@ -137,7 +137,7 @@ fn fault64(s: &[u8], i: usize) -> u8
 }
 
 // The first fault, or the end, and a place from which on no inserted byte stands before it.
-#[derive(Drop)]
+#[derive(Clone, Copy)]
 pub struct Found {
     pub fault: usize,
     pub calm: usize,
@@ -198,7 +198,7 @@ pub fn first_fault(s: &[u8], from: usize) -> usize
 
 // Where a unit ends: the next start code or the end, the place behind the unit's last byte, whether the unit has a fault, and a place from which on no
 // inserted byte stands in it.
-#[derive(Drop)]
+#[derive(Clone, Copy)]
 pub struct UnitScan {
     pub end: usize,
     pub stop: usize,

@@ -9,7 +9,7 @@ ghost use Rattle.nal_unit.specs.UnescapeCode.{Unescapes};
 use crate::{rows, scan, taking};
 
 // The answer of unescaping: the length written, or a refusal that changes nothing.
-#[derive(Drop)]
+#[derive(Clone, Copy)]
 pub enum Unescaped {
     Written(usize),
     Fault,

@@ -1,5 +1,6 @@
 // Runs nal_unit's escaping and unescaping against a list of escapes that the Rust wrote, all payloads of six bytes that the rule
 // tells apart, and inputs that are no escape, and prints what was compared.
+#![tactic(auto)]
 mod count;
 mod faults;
 mod list;

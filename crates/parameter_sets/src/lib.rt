@@ -1,6 +1,7 @@
 // The parameter sets (lib.rs: Sps, Pps, Vui, ProfileIdc; ITU-T H.264 7.3.2.1.1, 7.3.2.2 and E.1.1): their payloads, written and read back.
 // A payload is written into 32 bytes of zeros, a few fields a function. What a put answers is the place behind it, and is named after the field
 // that stands there. The Option of the Rust's cropping becomes a flag beside four numbers.
+#![tactic(auto)]
 ghost use Rattle.std.specs.Prelude.{◌≡◌, true, ◌+◌, ◌-◌, ◌*◌, ◌≤◌, eqb, length, get_or};
 ghost use Rattle.lists.specs.Every.{Below};
 ghost use Rattle.lists.specs.Test.{same};
@@ -78,7 +79,7 @@ fn put_sizes(payload: &mut [u8; 32], place: usize, s: Session) -> usize
 }
 
 // The offsets of the cropping rectangle, in crop units, and whether they are present.
-#[derive(Drop)]
+#[derive(Clone, Copy)]
 struct FrameCropping {
     pub present: bool,
     pub left: u32,
@@ -142,7 +143,7 @@ fn put_vui(payload: &mut [u8], place: usize) -> usize
 }
 
 // A payload: the first `len` of the bytes, and zeros behind them.
-#[derive(Drop)]
+#[derive(Clone, Copy)]
 pub struct Payload {
     pub bytes: [u8; 32],
     pub len: usize,
@@ -175,7 +176,7 @@ pub fn pps() -> [u8; 3]
 // ---- reading
 
 // The answer of a call that reads a sequence parameter set: what it says, or that it is of no accepted form.
-#[derive(Drop)]
+#[derive(Clone, Copy)]
 pub enum SpsRead {
     Sps(Session),
     NotForm,
@@ -207,7 +208,7 @@ pub fn is_pps(payload: &[u8]) -> bool
 }
 
 // An unsigned code's number and the place behind it.
-#[derive(Drop)]
+#[derive(Clone, Copy)]
 struct UeCode {
     pub number: u32,
     pub behind: usize,
@@ -297,7 +298,7 @@ fn width_place(s: Session) -> usize
 }
 
 // pic_width_in_mbs_minus1, pic_height_in_map_units_minus1 and the place behind them.
-#[derive(Drop)]
+#[derive(Clone, Copy)]
 struct SizeCodes {
     pub across: u32,
     pub down: u32,
@@ -358,7 +359,7 @@ fn visible(mbs_minus1: u32, unit: u32, crop: u32) -> u64
 }
 
 // A size that may be none that a picture has.
-#[derive(Drop)]
+#[derive(Clone, Copy)]
 struct Size {
     pub width: u64,
     pub height: u64,

@@ -21,7 +21,7 @@ use ycbcr_image::Session;
 
 // A unit that a call has found: the place of the call, where the unit's bytes begin and stop, a place from which on no inserted byte stands in it, and the
 // next start code or the end.
-#[derive(Drop)]
+#[derive(Clone, Copy)]
 pub struct Unit {
     pub place: usize,
     pub begin: usize,

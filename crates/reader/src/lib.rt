@@ -1,5 +1,6 @@
 // The reader (paper 01, "Reading a take"): a take's units told one by one, and a picture's visible samples written into lent planes. No payload is kept: it is
 // read by the places of the unit that holds it.
+#![tactic(auto)]
 pub mod heads;
 pub mod judge;
 pub mod samples;
@@ -12,21 +13,21 @@ use nal_unit::scan;
 use ycbcr_image::Session;
 
 // The sequence parameter set that is held, as its size and kind.
-#[derive(Drop)]
+#[derive(Clone, Copy)]
 pub enum HeldSps {
     Missing,
     Size(Session),
 }
 
 // The parameter sets held.
-#[derive(Drop)]
+#[derive(Clone, Copy)]
 pub struct HeldSets {
     pub sps: HeldSps,
     pub pps: bool,
 }
 
 // Where a reading stands. Any value is one; a held size or kind that no accepted parameter set gives counts as holding nothing.
-#[derive(Drop)]
+#[derive(Clone, Copy)]
 pub struct Reader {
     pub place: usize,
     pub sets: HeldSets,
@@ -34,7 +35,7 @@ pub struct Reader {
 
 // What a call answers, with the offset where the bytes begin that it is about: the end, a sequence parameter set with its size and kind, a picture parameter
 // set, a picture, whose samples are in the planes, or a refusal by its number.
-#[derive(Drop)]
+#[derive(Clone, Copy)]
 pub enum Answer {
     End,
     Sps(usize, Session),
@@ -44,7 +45,7 @@ pub enum Answer {
 }
 
 // The answer of a call, and where the reading stands then.
-#[derive(Drop)]
+#[derive(Clone, Copy)]
 pub struct Step {
     pub answer: Answer,
     pub reader: Reader,

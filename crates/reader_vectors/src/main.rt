@@ -1,4 +1,5 @@
 // Runs the reader's call over takes that the writer wrote, and over bytes written by hand that 01 says an answer of, and prints what was compared.
+#![tactic(auto)]
 mod bytes;
 mod call;
 mod count;

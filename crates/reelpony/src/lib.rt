@@ -1,5 +1,6 @@
 // The library as C sees it (include/reelpony.h). Kinds, depths and sessions are numbers here; a number that is none of them is refused with 99 before every
 // other test. Each function answers paper 01's number, 0 where the call is accepted.
+#![tactic(auto)]
 pub mod pieces;
 pub mod read;
 

@@ -1,5 +1,6 @@
 // The picture's slice (lib.rs: SliceHeader, MacroblockType, macroblock; ITU-T H.264 7.3.3 to 7.3.5): its payload from the lent planes, counted
 // and written macroblock by macroblock, with no payload kept.
+#![tactic(auto)]
 pub mod count;
 pub mod macroblock;
 pub mod write;
@@ -12,7 +13,7 @@ ghost use Rattle.slice.specs.Picture.{picture_length};
 use ycbcr_image::Session;
 
 // The bytes from one row to the next in each lent plane.
-#[derive(Drop)]
+#[derive(Clone, Copy)]
 pub struct Strides {
     pub y: usize,
     pub cb: usize,

@@ -1,26 +1,27 @@
 // Pictures by their numbers (ycbcr_image.rs, and the size tests of encoder.rs, with BitDepth, div_ceil and next_multiple of lib.rs): kinds and sizes, and the
 // writer's refusals 1 to 8. The planes' bytes stay with the caller. Planes are numbered: 0 is Y, 1 Cb, 2 Cr.
+#![tactic(auto)]
 ghost use Rattle.std.specs.Prelude.{◌≡◌, true, ◌+◌, ◌^◌, ◌<◌};
 ghost use Rattle.ycbcr_image.specs.Form.{depth_of, chroma_of, mono, planes, bytes_of, block_width, block_height, block_row_bytes, mb_bytes, crop_unit_x, crop_unit_y};
 ghost use Rattle.ycbcr_image.specs.Sizes.{sequence_of, div_ceil, next_multiple, pic_width_in_mbs, frame_height_in_mbs, visible_width, visible_height, padded_height, visible_row_bytes, padded_row_bytes, tight_length};
 ghost use Rattle.ycbcr_image.specs.Refusals.{session_of, of_picture, size_bad, depths_bad, four_bad, odd_bad, height_bad, session_bad, accepted, shape_refusal, plane_refusal, chroma_refusal, planes_refusal, refusal_of, refusal_next};
 
 // The bits of a sample.
-#[derive(Drop)]
+#[derive(Clone, Copy)]
 pub enum BitDepth {
     Depth8,
     Depth12,
 }
 
 // Y alone, or Y with Cb and Cr at half its width and height (4:2:0).
-#[derive(Drop)]
+#[derive(Clone, Copy)]
 pub enum Kind {
     Mono,
     Colour,
 }
 
 // A lent plane: its bytes, the bytes from one row to the next, its depth.
-#[derive(Drop)]
+#[derive(Clone, Copy)]
 pub struct DataPlane {
     pub len: usize,
     pub stride: usize,
@@ -28,7 +29,7 @@ pub struct DataPlane {
 }
 
 // A picture. Of a monochrome one `cb` and `cr` are never looked at.
-#[derive(Drop)]
+#[derive(Clone, Copy)]
 pub struct YCbCrImage {
     pub width: u32,
     pub height: u32,
@@ -39,7 +40,7 @@ pub struct YCbCrImage {
 }
 
 // What stays the same through a take: what a start call leaves, and what a sequence parameter set says.
-#[derive(Drop)]
+#[derive(Clone, Copy)]
 pub struct Session {
     pub width: u32,
     pub height: u32,

@@ -1,15 +1,9 @@
 -- `bits::with_bit` meets its contract: one test over every byte, bit and value, which antt computes. Assumes nothing.
-use mathlib.Core.Path.{◌≡◌}
-use mathlib.Core.Bool.{Bool, ◌&&◌}
-use Prim.Native.Nat.{ℕ, ◌+◌, ◌-◌, ◌*◌, ◌/◌, ◌%◌, ◌^◌, ◌≤◌, ◌<◌}
-use native.Mathlib.Omega.{arith}
-use lib.Dec.{T, leb, leb→le}
-use lib.ListN.{set}
-use borrow.Author.Rules.{rules}
+
+use Rattle.std.proofs.Common.{◌≡◌, Bool, ◌&&◌, ℕ, ◌+◌, ◌-◌, ◌*◌, ◌/◌, ◌%◌, ◌^◌, ◌≤◌, ◌<◌, arith, T, leb, leb→le, set}
 use Rattle.lists.specs.Test.{all_below, at_below, left, right, same, same→eq}
 use Rattle.bits.specs.Bits.{low_bits}
-use Rattle.bits.proofs.with_bit.Statement.{statement}
-use Rattle.bits.proofs.with_bit.Tie as tie
+use Rattle.bits.proofs.with_bit.Goals as goal
 
 -- the weight of the bit j, as the machine shifts
 abbrev weight : ℕ → ℕ
@@ -60,54 +54,29 @@ facts b j v hb hj hv =
       bits = same→eq (low_bits 8 (sum b j v)) (set (low_bits 8 b) j v) (right (leb (sum b j v) 255) _ w);
     }
 
-known : (c : tie.Start) → Sound c.args.b c.args.j c.args.v
+known : (c : goal.Start) → Sound c.args.b c.args.j c.args.v
 known c = facts c.args.b c.args.j c.args.v c.ranges.b.fits c.requires.0 c.requires.1
 
-sub-weight : tie.Need-overflow-sub-weight
-sub-weight c = search rules
+pub nonzero_div-above : goal.nonzero_div-above
+nonzero_div-above c = (known c).some
 
-cast-weight : tie.Need-overflow-cast-weight
-cast-weight c = search rules
+pub overflow_mul-above : goal.overflow_mul-above
+overflow_mul-above c = let k = known c in omega arith
 
-shl-weight : tie.Need-overflow-shl-weight
-shl-weight c = search rules
+pub overflow_add-above : goal.overflow_add-above
+overflow_add-above c = let k = known c in omega arith
 
-div-above : tie.Need-nonzero-div-above
-div-above c = (known c).some
+pub overflow_mul-result : goal.overflow_mul-result
+overflow_mul-result c = let k = known c in omega arith
 
-mul-above : tie.Need-overflow-mul-above
-mul-above c = let k = known c in omega arith
+pub nonzero_rem-result : goal.nonzero_rem-result
+nonzero_rem-result c = (known c).some
 
-add-above : tie.Need-overflow-add-above
-add-above c = let k = known c in omega arith
+pub overflow_add-result : goal.overflow_add-result
+overflow_add-result c = let k = known c in omega arith
 
-mul-result : tie.Need-overflow-mul-result
-mul-result c = let k = known c in omega arith
+pub overflow_cast-result-2 : goal.overflow_cast-result-2
+overflow_cast-result-2 c = let k = known c in omega arith
 
-rem-result : tie.Need-nonzero-rem-result
-rem-result c = (known c).some
-
-add-result : tie.Need-overflow-add-result
-add-result c = let k = known c in omega arith
-
-cast-result : tie.Need-overflow-cast-result
-cast-result c = let k = known c in omega arith
-
-returns : tie.Need-returns
+pub returns : goal.returns
 returns c = (known c).bits
-
-pub with-bit-spec : {M : Type 1} → statement M
-with-bit-spec =
-    tie.close
-    (tie.spec
-    sub-weight
-    cast-weight
-    shl-weight
-    div-above
-    mul-above
-    add-above
-    mul-result
-    rem-result
-    add-result
-    cast-result
-    returns)
