@@ -1,6 +1,7 @@
 // Exp-Golomb codes (golomb.rs; ITU-T H.264 9.1) at a bit place of a lent buffer. BitVec becomes the lent bytes with a place;
 // what the Rust cannot code, or finds no room for, is refused.
 #![tactic(auto)]
+
 ghost use Rattle.std.specs.Prelude.{◌≡◌, true, ◌+◌, ◌-◌, ◌≤◌, ◌^◌, min, nat_abs, length};
 ghost use Rattle.bits.specs.Bits.{bits_from, bit_count, BitsPut};
 ghost use Rattle.golomb.specs.Code.{num_bits, ue};

@@ -1,6 +1,7 @@
 // Pictures by their numbers (ycbcr_image.rs, and the size tests of encoder.rs, with BitDepth, div_ceil and next_multiple of lib.rs): kinds and sizes, and the
 // writer's refusals 1 to 8. The planes' bytes stay with the caller. Planes are numbered: 0 is Y, 1 Cb, 2 Cr.
 #![tactic(auto)]
+
 ghost use Rattle.std.specs.Prelude.{◌≡◌, true, ◌+◌, ◌^◌, ◌<◌};
 ghost use Rattle.ycbcr_image.specs.Form.{depth_of, chroma_of, mono, planes, bytes_of, block_width, block_height, block_row_bytes, mb_bytes, crop_unit_x, crop_unit_y};
 ghost use Rattle.ycbcr_image.specs.Sizes.{sequence_of, div_ceil, next_multiple, pic_width_in_mbs, frame_height_in_mbs, visible_width, visible_height, padded_height, visible_row_bytes, padded_row_bytes, tight_length};

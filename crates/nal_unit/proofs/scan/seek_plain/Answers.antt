@@ -1,0 +1,21 @@
+-- `nal_unit::scan::seek_plain` meets its contract. The invariant: the search has reached the place i. Assumes nothing.
+use Rattle.std.proofs.Common.{sym, ◌∙◌, inl, inr, ◌-◌, arith}
+use Rattle.nal_unit.specs.ScanCode.{seek_start, seek-keep, seek-raise, seek_found, seek_end}
+use Rattle.nal_unit.proofs.scan.seek_plain.Goals as goal
+
+pub loop-i-init : goal.loop-i-init
+loop-i-init c = seek_start c.args.s.now c.args.from c.args.calm c.requires.from_in_bounds c.requires.le_calm.0 c.requires.le_calm.1
+
+pub returns-then-fault_at : goal.returns-then-fault_at
+returns-then-fault_at c = seek_found c.loop-i.invariant (sym c.fault_at.ensures ∙ c.if-fault_at.true)
+
+pub loop-i-preserved : goal.loop-i-preserved
+loop-i-preserved c =
+    let g = c.loop-i.invariant in
+    elim c.if-low_at.branch [
+      | inl w ↦ rw w.3 (seek-raise g (omega arith) (sym w.1.ensures ∙ w.2.left))
+      | inr w ↦ rw w.1 (seek-keep g (omega arith) (c.low_at.ensures w.0.left))
+    ]
+
+pub returns : goal.returns
+returns c = seek_end c.loop-i.invariant (omega arith)

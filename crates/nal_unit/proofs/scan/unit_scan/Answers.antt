@@ -1,0 +1,30 @@
+-- `nal_unit::scan::unit_scan` meets its contract: no start code stands before the first fault, and the unit has a fault where that one is in it.
+-- Assumes nothing.
+use Rattle.std.proofs.Common.{arith, drop, length-drop}
+use Rattle.nal_unit.specs.StartCode.{next_le}
+use Rattle.nal_unit.specs.ScanCode.{first_le, unit-beyond, unit-faulty, unit_whole}
+use Rattle.nal_unit.proofs.scan.unit_scan.Goals as goal
+
+pub returns-then-s-from : goal.returns-then-s-from
+returns-then-s-from c = unit-beyond c.args.s.now c.args.from (omega arith)
+
+pub trim_end-stop-requires : goal.trim_end-stop-requires
+trim_end-stop-requires c =
+    let s = c.args.s.now in
+    let f = c.seek-found.result.fault in
+    let d = length-drop c.args.from s in
+    let g = c.seek-found.ensures.fault in record { from_le_end = omega (arith, g); end_in_bounds = omega (arith, first_le (drop c.args.from s), d, next_le (drop f s), length-drop f s, g, c.next_code-end.ensures) }
+
+pub overflow_add-fault : goal.overflow_add-fault
+overflow_add-fault c =
+    omega (arith, first_le (drop c.args.from c.args.s.now), length-drop c.args.from c.args.s.now, c.seek-found.ensures.fault, c.well_formed)
+
+pub returns-then-fault-stop : goal.returns-then-fault-stop
+returns-then-fault-stop c =
+    unit-faulty c.args.s.now c.args.from c.next_code-end.result c.trim_end-stop.result c.seek-found.result
+    c.seek-found.ensures c.next_code-end.ensures (omega arith) c.trim_end-stop.ensures c.if-fault-stop.true
+
+pub returns : goal.returns
+returns c =
+    unit_whole c.args.s.now c.args.from c.next_code-end.result c.trim_end-stop.result c.seek-found.result
+    c.seek-found.ensures c.next_code-end.ensures (omega arith) c.trim_end-stop.ensures c.if-fault-stop.false

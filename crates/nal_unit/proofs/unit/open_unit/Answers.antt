@@ -1,0 +1,7 @@
+-- `nal_unit::unit::open_unit` meets its contract: four bytes copied and one store. Assumes nothing.
+use Rattle.std.proofs.Common.{refl}
+use Rattle.nal_unit.specs.UnitCode.{open_put}
+use Rattle.nal_unit.proofs.unit.open_unit.Goals as goal
+
+pub returns : goal.returns
+returns c = record { value = refl; out_after = open_put c.args.out.now c.args.at c.args.header c.requires c.copy.ensures }

@@ -1,0 +1,12 @@
+-- `ycbcr_image::crop_unit_x` meets its contract, by cases of the kind. Assumes nothing.
+use Rattle.std.proofs.Common.{refl}
+use Rattle.ycbcr_image.specs.Form.{mono, crop_unit_x, sub_width_c}
+use Rattle.ycbcr_image.proofs.crop_unit_x.Goals as goal
+
+pub returns-in-Mono : goal.returns-in-Mono
+unfolding crop_unit_x sub_width_c mono
+returns-in-Mono c = rw c.enum_told-1.given.1 refl
+
+pub returns-in-Colour : goal.returns-in-Colour
+unfolding crop_unit_x sub_width_c mono
+returns-in-Colour c = rw c.enum_told-in-Colour-1.given.1 refl
