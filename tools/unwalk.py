@@ -54,7 +54,7 @@ def parameters(text):
 
 
 def signatures(root):
-    """By `crate::module::function` (methods as `crate::module::Type::f`): the `&mut` parameters, and the names of requires and ensures clauses."""
+    """By `crate::module::function`: the parameters, and the names of requires and ensures clauses."""
     out = {}
     for path in sorted(glob.glob(os.path.join(root, "crates/*/src/**/*.rt"), recursive=True)):
         crate = path.split("/crates/")[1].split("/")[0]
@@ -67,12 +67,11 @@ def signatures(root):
                 depth += {"(": 1, ")": -1}.get(text[i], 0)
                 i += 1
             inside = parameters(text[m.end() : i - 1])
-            muts = [p.split(":")[0].replace("mut ", "").strip() for p in inside if re.search(r":\s*&('\w+ )?mut ", p)]
             head = re.split(r"\n" + m.group(1) + r"\{\n", text[i:], maxsplit=1)[0]
             kinds = {}
             for kind in ("requires", "ensures"):
                 kinds[kind] = [c for c in re.findall(r"^\s*" + kind + r"\*?(?: (\w+))? \{", head, re.M)]
-            out[prefix + "::" + m.group(2)] = (muts, kinds["requires"], kinds["ensures"], [p.split(":")[0].replace("mut ", "").strip() for p in inside])
+            out[prefix + "::" + m.group(2)] = ([p.split(":")[0].replace("mut ", "").strip() for p in inside], kinds["requires"], kinds["ensures"])
     return out
 
 
@@ -156,25 +155,47 @@ class Turn:
         self.steps, self.callee, self.renames = {}, {}, {}
         for name, _, step, call, fields in of["places"]:
             if step and step[0]:
-                self.steps[norm(step[0])] = step[1]
+                if not (step[1] == step[0] + "-1" and "_" not in step[0]):
+                    self.steps[norm(step[0])] = step[1]
                 if call:
                     self.callee[step[1]] = call
                 if fields:
                     self.renames.setdefault(step[1], {}).update({a: b for a, b in fields})
+        self.arms, self.arms_to = [], []
+        for a in of["arms"]:
+            for field, step, rest in a[2] if a else []:
+                if rest:
+                    self.arms.append([norm(step), *rest])
+                    self.arms_to.append([a[0], field])
         self.place = {norm(p[0]): n for p, n in zip(of["places"], of["places_by_name"])}
         self.loops = {norm(l[0][0]): (l[0][1], l[1]) for l in of["loops"]}
         self.looks = []
-        self.own = sigs.get(function, ([], [], [], []))
+        self.own = sigs.get(function, ([], [], []))
 
-    def clause(self, names, digit):
-        k = int(digit)
-        return names[k] if len(names) > 1 and k < len(names) and all(names) else digit
+    def clause(self, names, digits, whole):
+        """The old numbers behind `requires` or `ensures`, where clauses paired up to the right, as the clause's name and the numbers that are left."""
+        if len(names) < 2 or not all(names):
+            return digits
+        i, left = 0, list(digits)
+        while i < len(names) - 1 and left[:1] == ["1"]:
+            i += 1
+            left.pop(0)
+        if i < len(names) - 1:
+            if left[:1] == ["0"]:
+                left.pop(0)
+            else:
+                if digits:
+                    self.looks.append(f"{whole}: several clauses at once")
+                return digits
+        return [names[i], *left]
 
     def path(self, m, bound):
-        segs = m.group(0).split(".")
+        whole = m.group(0)
+        segs = whole.split(".")
         if segs[0] in ("tie", "Rattle", "goal"):
-            return m.group(0)
+            return whole
         out, here = [segs[0]], bound.get(segs[0])
+        kind = here if here in ("args", "requires") else None
         i = 1
         while i < len(segs):
             s = segs[i]
@@ -182,25 +203,41 @@ class Turn:
             if s == "before":
                 i += 1
                 continue
-            if n in self.steps and out[-1] not in ("args", "new", "auto", "ranges", "initial", "fn") and not (here and out[-1] == here):
+            inside = out[-1] in ("args", "new", "auto", "ranges", "initial", "fn", "now") or kind == "args"
+            arm = None if inside else next((a for a in self.arms if segs[i : i + len(a)] == a or [n, *segs[i + 1 : i + len(a)]] == a), None)
+            if arm:
+                out += self.arms_to[self.arms.index(arm)]
+                i += len(arm)
+                continue
+            if n in self.steps and not inside and not (here and out[-1] == here):
                 here = self.steps[n]
                 out.append(here)
             elif here and out[-1] == here and n in self.renames.get(here, {}):
                 out.append(self.renames[here][n])
-            elif s.isdigit() and out[-1] == "new" and here in self.callee:
-                muts = self.sigs.get(self.callee[here], ([],))[0]
-                out.append(muts[int(s)] if int(s) < len(muts) else s)
-            elif s.isdigit() and out[-1] == "auto" and here in self.callee:
-                muts = self.sigs.get(self.callee[here], ([],))[0]
-                out.append(muts[int(s)] if int(s) < len(muts) else s)
+            elif s.isdigit() and out[-1] in ("new", "auto") and here in self.callee:
+                refs = self.sigs.get(self.callee[here], ([],))[0]
+                k = 0
+                while segs[i] == "1" and i + 1 < len(segs) and segs[i + 1].isdigit():
+                    i, k = i + 1, k + 1
+                k += segs[i] == "1"
+                out.append(refs[k] if k < len(refs) else s)
             elif s.isdigit() and out[-1] == "auto" and here:
-                self.looks.append(f"{m.group(0)}: the loop's own facts have names")
+                self.looks.append(f"{whole}: the loop's own facts have names")
                 out.append(s)
-            elif s.isdigit() and out[-1] == "ensures" and here in self.callee:
-                out.append(self.clause(self.sigs.get(self.callee[here], ([], [], []))[2], s))
-            elif s.isdigit() and out[-1] == "requires":
-                out.append(self.clause(self.own[1], s))
-            elif "-" in s and len(out) > 0:
+            elif s.isdigit() and (out[-1] in ("ensures", "requires") or kind == "requires" and len(out) == 1):
+                j = i
+                while j < len(segs) and segs[j].isdigit():
+                    j += 1
+                if out[-1] == "ensures":
+                    names = self.sigs[self.callee[here]][2] if self.callee.get(here) in self.sigs else []
+                else:
+                    names = self.own[1]
+                out += self.clause(names, segs[i:j], whole)
+                i = j
+                continue
+            elif s == "pre":
+                out.append("requires")
+            elif "-" in s:
                 out.append(s.replace("-", "_"))
             else:
                 out.append(s)
@@ -224,9 +261,9 @@ class Turn:
             last = m.group(2).split(".")[-1]
             if norm(last) in self.steps:
                 bound[m.group(1)] = self.steps[norm(last)]
-            elif last in ("ensures", "new", "auto", "requires"):
-                pass
-        return re.sub(r"(?<![\w.'-])" + r"[A-Za-z_][^\s(){}.;,@\"«»\[\]\\]*(?:\.[^\s(){}.;,@\"«»\[\]\\]+)+", lambda m: self.path(m, bound), text)
+            elif last in ("args", "requires", "pre"):
+                bound[m.group(1)] = "requires" if last == "pre" else last
+        return re.sub(r"(?:(?<![\w.'-])[A-Za-z_][^\s(){}.;,@\"«»\[\]\\]*|(?<=\)))(?:\.[^\s(){}.;,@\"«»\[\]\\]+)+", lambda m: self.path(m, bound), text)
 
     def invariant(self, name, sig, unf, eq):
         """`invariant-loop` or `decreases-loop`, as a function of the live variables."""
@@ -289,6 +326,17 @@ class Turn:
                 items.append(["helper", comment, name, sig, unf, eq])
             else:
                 items.append(["plain", comment, name, sig, unf, eq])
+        same = [i[2] for i in items if i[0] == "helper" and re.match(re.escape(i[2]) + r" (\w+) = \1(?:\.before)*$", i[5].strip())]
+        items = [i for i in items if i[2] not in same]
+
+        def open_same(t):
+            for h in same:
+                t = re.sub(r"\(" + re.escape(h) + r" (\w[\w'₀-₉]*(?:\.before)*)\)", r"\1", t)
+                t = re.sub(r"(?<![\w.'-])" + re.escape(h) + r" (\w[\w'₀-₉]*(?:\.before)*)(?![\w'.-])", r"\1", t)
+            return t
+
+        if same:
+            items = [[*i[:3], open_same(i[3]), i[4], open_same(i[5])] for i in items]
         # the places at which each helper is cited
         helpers = {i[2] for i in items if i[0] == "helper"}
         cites = lambda t: {w for w in re.findall(r"(?<![.\w'-])" + WORD, t) if w in helpers}
@@ -364,6 +412,11 @@ class Turn:
         m = re.search(r"^(.*?)(\((?:.|\n)*\))\s*$", body, re.S)
         start = self.final(body)
         parts = split_tuple(body[start:])
+        while parts and len(parts) < len(names):
+            more = split_tuple(parts[-1])
+            if not more:
+                break
+            parts = parts[:-1] + more
         if parts and len(parts) == len(names):
             return body[:start].rstrip(" ") + " record { " + "; ".join(f"{n} = {p}" for n, p in zip(names, parts)) + " }"
         self.looks.append(f"{goal}: {len(names)} clauses, and its answer is no tuple of them")
@@ -399,7 +452,7 @@ def imports(uses, text, common):
             rest.append(u)
             continue
         names = [n.strip() for n in m.group(2).split(",")]
-        names = [n for n in names if cited(n)]
+        names = [n for n in names if cited(n) or n == "[]" and "[]" in text]
         if OURS.match(m.group(1)):
             from_common += [n for n in names if n in common]
             names = [n for n in names if n not in common]

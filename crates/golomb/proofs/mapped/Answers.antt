@@ -54,7 +54,7 @@ down c = other (x2 c) (ap (λ (z : ℤ). lt_z (pos 0) z) (sym (read2 c)) ∙ c.i
 
 -- the opposite as the machine has it
 read_down : (c : goal.Else-x-gt0) → to_z w32 (of_z w32 (pos 0 -ℤ to_z w32 (of_z w32 (x2 c)))) ≡ pos 0 -ℤ x2 c
-read_down c = ap (λ (z : ℤ). to_z w32 (of_z w32 (pos 0 -ℤ z))) (read2 c) ∙ to_z-of_z (down c).ranges
+read_down c = ap (λ (z : ℤ). to_z w32 (of_z w32 (pos 0 -ℤ z))) (read2 c) ∙ to_z-of_z (down c).fits
 
 pub overflow_cast-result : goal.overflow_cast-result
 overflow_cast-result c =
@@ -73,7 +73,7 @@ pub overflow_sub-result : goal.overflow_sub-result
 overflow_sub-result c = omega (arith, (up c).some, size c)
 
 pub overflow_sub-result-else-x-gt0 : goal.overflow_sub-result-else-x-gt0
-overflow_sub-result-else-x-gt0 c = subst (λ (z : ℤ). SFits w32 (pos 0 -ℤ z)) (sym (read2 c)) (down c).ranges
+overflow_sub-result-else-x-gt0 c = subst (λ (z : ℤ). SFits w32 (pos 0 -ℤ z)) (sym (read2 c)) (down c).fits
 
 pub overflow_cast-result-else-x-gt0 : goal.overflow_cast-result-else-x-gt0
 overflow_cast-result-else-x-gt0 c =

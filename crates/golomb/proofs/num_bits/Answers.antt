@@ -1,13 +1,10 @@
 -- `golomb::num_bits` meets its contract: the digits shifted out and those that are left are the number's. Assumes nothing.
 
-use Rattle.std.proofs.Common.{◌≡◌, refl, sym, ap, ◌∙◌, cond, ℕ, ◌+◌, ◌/◌, arith, eqb, ne_eqb}
+use Rattle.std.proofs.Common.{◌≡◌, refl, sym, ap, ◌∙◌, ℕ, ◌+◌, ◌/◌, arith, ne_eqb}
 use Rattle.lists.specs.Test.{either}
 use Rattle.golomb.specs.Code.{num_bits, num_most, num-half, num_one, num-zero}
+use Rattle.golomb.proofs.num_bits.Invariants.{left}
 use Rattle.golomb.proofs.num_bits.Goals as goal
-
--- the digits of what is left, none of 0
-left : ℕ → ℕ
-left r = cond (eqb r 0) 0 (num_bits r)
 
 left_some : (r : ℕ) → (r ≡ 0 → ⊥) → left r ≡ num_bits r
 unfolding left

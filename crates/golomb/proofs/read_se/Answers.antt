@@ -8,13 +8,13 @@ use Rattle.golomb.proofs.read_se.Goals as goal
 
 pub unmapped-requires : goal.unmapped-requires
 unmapped-requires c =
-    ue-domain _ _ _ _ (sym c.read_ue.ensures ∙ c.k-1.given.1)
+    ue-domain _ _ _ _ (sym c.read_ue.ensures ∙ c.in-Number.is)
 
 pub returns-in-Number : goal.returns-in-Number
 returns-in-Number c =
-    ap (λ (z : ℤ). Number z c.k-1.given.0.1.0) (to_z-of_z {w = w32} (record { sfits = c.unmapped.type_inv }) ∙ c.unmapped.ensures)
-    ∙ sym (se_is _ _ ∙ ap signed (sym c.read_ue.ensures ∙ c.k-1.given.1))
+    ap (λ (z : ℤ). Number z c.in-Number.behind) (to_z-of_z {w = w32} (record { sfits = c.unmapped.type_inv }) ∙ c.unmapped.ensures)
+    ∙ sym (se_is _ _ ∙ ap signed (sym c.read_ue.ensures ∙ c.in-Number.is))
 
 pub returns-in-NoCode : goal.returns-in-NoCode
 returns-in-NoCode c =
-    sym (se_is _ _ ∙ ap signed (sym c.read_ue.ensures ∙ c.enum_told-1.given.1))
+    sym (se_is _ _ ∙ ap signed (sym c.read_ue.ensures ∙ c.in-NoCode.is))

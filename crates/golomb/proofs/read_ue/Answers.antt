@@ -8,27 +8,15 @@ use Rattle.golomb.specs.Read.{leading_zero_bits, code_bits, code_num, whole_long
 use Rattle.golomb.specs.Answers.{ue_none, ue_some}
 use Rattle.golomb.proofs.read_ue.Goals as goal
 
-abbrev S1 : goal.Then-zeros-gt31 → goal.Then-zeros-gt31
-S1 k = k
-
-abbrev S2 : goal.Then-not-room → goal.Then-not-room
-S2 k = k
-
-abbrev S3 : goal.Else-not-room → goal.Else-not-room
-S3 k = k
-
-abbrev S4 : goal.After-get_bits-suffix → goal.After-get_bits-suffix
-S4 k = k
-
 -- the bits from the place on
 abbrev bs1 : goal.Then-zeros-gt31 → List ℕ
-bs1 k = bits_from (S1 k).args.payload.now (S1 k).args.place
+bs1 k = bits_from k.args.payload.now k.args.place
 
 abbrev bs2 : goal.Then-not-room → List ℕ
-bs2 k = bits_from (S2 k).args.payload.now (S2 k).args.place
+bs2 k = bits_from k.args.payload.now k.args.place
 
 abbrev bs3 : goal.After-get_bits-suffix → List ℕ
-bs3 k = bits_from (S4 k).args.payload.now (S4 k).args.place
+bs3 k = bits_from k.args.payload.now k.args.place
 
 pub returns-then-zeros-gt31 : goal.returns-then-zeros-gt31
 returns-then-zeros-gt31 c = sym (ue_none _ _ (whole_long (bs1 c) (omega (arith, c.leading_zero_bits-zeros.ensures))))
@@ -42,19 +30,18 @@ zeros2 c = omega (arith, c.leading_zero_bits-zeros.ensures)
 
 pub returns-then-not-room : goal.returns-then-not-room
 returns-then-not-room c =
-    let s = S2 c in
-    let r = room_false s.args.payload.now s.args.place (2 * c.leading_zero_bits-zeros.result + 1) (sym c.room.ensures ∙ not-true _ c.if-not-room.true-raw) in
-    sym (ue_none _ _ (whole_short (bs2 c) (omega (arith, zeros1 c)) (omega (arith, zeros1 c, code-bits (bs2 c), from_length s.args.payload.now s.args.place))))
+    let r = room_false c.args.payload.now c.args.place (2 * c.leading_zero_bits-zeros.result + 1) (sym c.room.ensures ∙ not-true _ c.if-not-room.true-raw) in
+    sym (ue_none _ _ (whole_short (bs2 c) (omega (arith, zeros1 c)) (omega (arith, zeros1 c, code-bits (bs2 c), from_length c.args.payload.now c.args.place))))
 
 -- there is room
-fits1 : (c : goal.Else-not-room) → (S3 c).args.place + (2 * c.leading_zero_bits-zeros.result + 1) ≤ bit_count (S3 c).args.payload.now
+fits1 : (c : goal.Else-not-room) → c.args.place + (2 * c.leading_zero_bits-zeros.result + 1) ≤ bit_count c.args.payload.now
 fits1 c = room_true _ _ _ (sym c.room.ensures ∙ not-false _ c.if-not-room.false-raw)
 
-fits2 : (c : goal.After-get_bits-suffix) → (S4 c).args.place + (2 * c.leading_zero_bits-zeros.result + 1) ≤ bit_count (S4 c).args.payload.now
+fits2 : (c : goal.After-get_bits-suffix) → c.args.place + (2 * c.leading_zero_bits-zeros.result + 1) ≤ bit_count c.args.payload.now
 fits2 c = room_true _ _ _ (sym c.room.ensures ∙ not-false _ c.if-not-room.false-raw)
 
 pub overflow_add-place : goal.overflow_add-place
-overflow_add-place c = omega (arith, fits1 c, count-lt (S3 c).args.payload.now)
+overflow_add-place c = omega (arith, fits1 c, count-lt c.args.payload.now)
 
 pub get_bits-suffix-requires : goal.get_bits-suffix-requires
 get_bits-suffix-requires c = (omega arith, omega (arith, fits1 c))
@@ -68,18 +55,17 @@ record Wide (z v : ℕ) : Type 0 where
 
 wide : (c : goal.After-get_bits-suffix) → Wide c.leading_zero_bits-zeros.result c.get_bits-suffix.result
 wide c =
-    let s = S4 c in
     let z = c.leading_zero_bits-zeros.result in
     let few : z ≤ 31 = c.if-zeros-gt31.false in
     let m = pow_mono {j = 31} few in
-    let p = part (bits_of s.args.payload.now) (s.args.place + (z + 1)) z in
-    let n : length p ≡ z = part_length (bits_of s.args.payload.now) (s.args.place + (z + 1)) z
-    (omega (arith, fits2 c, count-length s.args.payload.now, bits-length s.args.payload.now)) in
+    let p = part (bits_of c.args.payload.now) (c.args.place + (z + 1)) z in
+    let n : length p ≡ z = part_length (bits_of c.args.payload.now) (c.args.place + (z + 1)) z
+    (omega (arith, fits2 c, count-length c.args.payload.now, bits-length c.args.payload.now)) in
     record {
       shift = rw (mod-eq_of_lt {n = 1 * 2 ^ z} {m = 2 ^ 64} (omega arith)) (omega arith);
       some = pow_pos z;
       most = m;
-      below = rw c.get_bits-suffix.ensures (rw n at (value-lt p (below_part (bits_of s.args.payload.now) (s.args.place + (z + 1)) z (bits_below s.args.payload.now))));
+      below = rw c.get_bits-suffix.ensures (rw n at (value-lt p (below_part (bits_of c.args.payload.now) (c.args.place + (z + 1)) z (bits_below c.args.payload.now))));
     }
 
 pub overflow_sub-result : goal.overflow_sub-result
@@ -92,18 +78,17 @@ pub overflow_cast-result : goal.overflow_cast-result
 overflow_cast-result c = let w = wide c in omega arith
 
 pub overflow_add-result-2 : goal.overflow_add-result-2
-overflow_add-result-2 c = omega (arith, fits2 c, count-lt (S4 c).args.payload.now)
+overflow_add-result-2 c = omega (arith, fits2 c, count-lt c.args.payload.now)
 
 pub returns : goal.returns
 returns c =
-    let s = S4 c in
     let z = c.leading_zero_bits-zeros.result in
     let w = wide c in
     let q = zeros2 c in
-    let p : part (bs3 c) (z + 1) z ≡ part (bits_of s.args.payload.now) (s.args.place + (z + 1)) z =
-    from_part s.args.payload.now s.args.place (z + 1) z (omega (arith, fits2 c)) in
+    let p : part (bs3 c) (z + 1) z ≡ part (bits_of c.args.payload.now) (c.args.place + (z + 1)) z =
+    from_part c.args.payload.now c.args.place (z + 1) z (omega (arith, fits2 c)) in
     let num : code_num (bs3 c) ≡ 1 * 2 ^ z % 2 ^ 64 - 1 + c.get_bits-suffix.result =
     code-num (bs3 c) ∙ rw (q, p, w.shift) (ap (λ (v : ℕ). 2 ^ z - 1 + v) (sym c.get_bits-suffix.ensures)) in
     let len : code_bits (bs3 c) ≡ 2 * z + 1 = omega (arith, code-bits (bs3 c)) in
-    let yes = whole_yes (bs3 c) (omega arith) (omega (arith, fits2 c, from_length s.args.payload.now s.args.place)) in
+    let yes = whole_yes (bs3 c) (omega arith) (omega (arith, fits2 c, from_length c.args.payload.now c.args.place)) in
     sym (ue_some _ _ yes ∙ rw (num, len) refl)

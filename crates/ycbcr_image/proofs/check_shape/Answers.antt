@@ -24,83 +24,65 @@ of5 c f b e = sym (e ∙ ap (λ (s : Session). f (sequence_of s)) c.session_of-s
 of6 : (c : goal.Else-height) (f : Sequence → Bool) (b : Bool) → b ≡ f (sequence_of c.session_of-s.result) → f (of_picture c.args.i) ≡ b
 of6 c f b e = sym (e ∙ ap (λ (s : Session). f (sequence_of s)) c.session_of-s.ensures)
 
-abbrev S1 : goal.Then-size → goal.Then-size
-S1 c = c
+size1 : (c : goal.Then-size) → size_bad (of_picture c.args.i) ≡ c.size_bad-size.result
+size1 c = of1 c size_bad _ c.size_bad-size.ensures
 
-abbrev S2 : goal.Then-depths → goal.Then-depths
-S2 c = c
+size2 : (c : goal.Then-depths) → size_bad (of_picture c.args.i) ≡ c.size_bad-size.result
+size2 c = of2 c size_bad _ c.size_bad-size.ensures
 
-abbrev S3 : goal.Then-four → goal.Then-four
-S3 c = c
+size3 : (c : goal.Then-four) → size_bad (of_picture c.args.i) ≡ c.size_bad-size.result
+size3 c = of3 c size_bad _ c.size_bad-size.ensures
 
-abbrev S4 : goal.Then-odd → goal.Then-odd
-S4 c = c
+size4 : (c : goal.Then-odd) → size_bad (of_picture c.args.i) ≡ c.size_bad-size.result
+size4 c = of4 c size_bad _ c.size_bad-size.ensures
 
-abbrev S5 : goal.Then-height → goal.Then-height
-S5 c = c
+size5 : (c : goal.Then-height) → size_bad (of_picture c.args.i) ≡ c.size_bad-size.result
+size5 c = of5 c size_bad _ c.size_bad-size.ensures
 
-abbrev S6 : goal.Else-height → goal.Else-height
-S6 c = c
+size6 : (c : goal.Else-height) → size_bad (of_picture c.args.i) ≡ c.size_bad-size.result
+size6 c = of6 c size_bad _ c.size_bad-size.ensures
 
-size1 : (c : goal.Then-size) → size_bad (of_picture (S1 c).before.args.i) ≡ c.size_bad-size.result
-size1 c = of1 (S1 c) size_bad _ c.size_bad-size.ensures
-
-size2 : (c : goal.Then-depths) → size_bad (of_picture (S2 c).before.args.i) ≡ c.size_bad-size.result
-size2 c = of2 (S2 c) size_bad _ c.size_bad-size.ensures
-
-size3 : (c : goal.Then-four) → size_bad (of_picture (S3 c).before.args.i) ≡ c.size_bad-size.result
-size3 c = of3 (S3 c) size_bad _ c.size_bad-size.ensures
-
-size4 : (c : goal.Then-odd) → size_bad (of_picture (S4 c).before.args.i) ≡ c.size_bad-size.result
-size4 c = of4 (S4 c) size_bad _ c.size_bad-size.ensures
-
-size5 : (c : goal.Then-height) → size_bad (of_picture (S5 c).before.args.i) ≡ c.size_bad-size.result
-size5 c = of5 (S5 c) size_bad _ c.size_bad-size.ensures
-
-size6 : (c : goal.Else-height) → size_bad (of_picture (S6 c).before.args.i) ≡ c.size_bad-size.result
-size6 c = of6 (S6 c) size_bad _ c.size_bad-size.ensures
-
-depths1 : (c : goal.Then-depths) → depths_bad (S2 c).before.args.i ≡ c.depths_bad-depths.result
+depths1 : (c : goal.Then-depths) → depths_bad c.args.i ≡ c.depths_bad-depths.result
 depths1 c = sym c.depths_bad-depths.ensures
 
-depths2 : (c : goal.Then-four) → depths_bad (S3 c).before.args.i ≡ c.depths_bad-depths.result
+depths2 : (c : goal.Then-four) → depths_bad c.args.i ≡ c.depths_bad-depths.result
 depths2 c = sym c.depths_bad-depths.ensures
 
-depths3 : (c : goal.Then-odd) → depths_bad (S4 c).before.args.i ≡ c.depths_bad-depths.result
+depths3 : (c : goal.Then-odd) → depths_bad c.args.i ≡ c.depths_bad-depths.result
 depths3 c = sym c.depths_bad-depths.ensures
 
-depths4 : (c : goal.Then-height) → depths_bad (S5 c).before.args.i ≡ c.depths_bad-depths.result
+depths4 : (c : goal.Then-height) → depths_bad c.args.i ≡ c.depths_bad-depths.result
 depths4 c = sym c.depths_bad-depths.ensures
 
-depths5 : (c : goal.Else-height) → depths_bad (S6 c).before.args.i ≡ c.depths_bad-depths.result
+depths5 : (c : goal.Else-height) → depths_bad c.args.i ≡ c.depths_bad-depths.result
 depths5 c = sym c.depths_bad-depths.ensures
 
-four1 : (c : goal.Then-four) → four_bad (of_picture (S3 c).before.args.i) ≡ c.four_bad-four.result
-four1 c = of3 (S3 c) four_bad _ c.four_bad-four.ensures
+four1 : (c : goal.Then-four) → four_bad (of_picture c.args.i) ≡ c.four_bad-four.result
+four1 c = of3 c four_bad _ c.four_bad-four.ensures
 
-four2 : (c : goal.Then-odd) → four_bad (of_picture (S4 c).before.args.i) ≡ c.four_bad-four.result
-four2 c = of4 (S4 c) four_bad _ c.four_bad-four.ensures
+four2 : (c : goal.Then-odd) → four_bad (of_picture c.args.i) ≡ c.four_bad-four.result
+four2 c = of4 c four_bad _ c.four_bad-four.ensures
 
-four3 : (c : goal.Then-height) → four_bad (of_picture (S5 c).before.args.i) ≡ c.four_bad-four.result
-four3 c = of5 (S5 c) four_bad _ c.four_bad-four.ensures
+four3 : (c : goal.Then-height) → four_bad (of_picture c.args.i) ≡ c.four_bad-four.result
+four3 c = of5 c four_bad _ c.four_bad-four.ensures
 
-four4 : (c : goal.Else-height) → four_bad (of_picture (S6 c).before.args.i) ≡ c.four_bad-four.result
-four4 c = of6 (S6 c) four_bad _ c.four_bad-four.ensures
+four4 : (c : goal.Else-height) → four_bad (of_picture c.args.i) ≡ c.four_bad-four.result
+four4 c = of6 c four_bad _ c.four_bad-four.ensures
 
-odd1 : (c : goal.Then-odd) → odd_bad (of_picture (S4 c).before.args.i) ≡ c.odd_bad-odd.result
-odd1 c = of4 (S4 c) odd_bad _ c.odd_bad-odd.ensures
+odd1 : (c : goal.Then-odd) → odd_bad (of_picture c.args.i) ≡ c.odd_bad-odd.result
+odd1 c = of4 c odd_bad _ c.odd_bad-odd.ensures
 
-odd2 : (c : goal.Then-height) → odd_bad (of_picture (S5 c).before.args.i) ≡ c.odd_bad-odd.result
-odd2 c = of5 (S5 c) odd_bad _ c.odd_bad-odd.ensures
+odd2 : (c : goal.Then-height) → odd_bad (of_picture c.args.i) ≡ c.odd_bad-odd.result
+odd2 c = of5 c odd_bad _ c.odd_bad-odd.ensures
 
-odd3 : (c : goal.Else-height) → odd_bad (of_picture (S6 c).before.args.i) ≡ c.odd_bad-odd.result
-odd3 c = of6 (S6 c) odd_bad _ c.odd_bad-odd.ensures
+odd3 : (c : goal.Else-height) → odd_bad (of_picture c.args.i) ≡ c.odd_bad-odd.result
+odd3 c = of6 c odd_bad _ c.odd_bad-odd.ensures
 
-height1 : (c : goal.Then-height) → height_bad (of_picture (S5 c).before.args.i) ≡ c.height_bad-height.result
-height1 c = of5 (S5 c) height_bad _ c.height_bad-height.ensures
+height1 : (c : goal.Then-height) → height_bad (of_picture c.args.i) ≡ c.height_bad-height.result
+height1 c = of5 c height_bad _ c.height_bad-height.ensures
 
-height2 : (c : goal.Else-height) → height_bad (of_picture (S6 c).before.args.i) ≡ c.height_bad-height.result
-height2 c = of6 (S6 c) height_bad _ c.height_bad-height.ensures
+height2 : (c : goal.Else-height) → height_bad (of_picture c.args.i) ≡ c.height_bad-height.result
+height2 c = of6 c height_bad _ c.height_bad-height.ensures
 
 pub returns-then-size : goal.returns-then-size
 unfolding shape_refusal

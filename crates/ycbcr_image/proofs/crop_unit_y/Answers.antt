@@ -5,8 +5,8 @@ use Rattle.ycbcr_image.proofs.crop_unit_y.Goals as goal
 
 pub returns-in-Mono : goal.returns-in-Mono
 unfolding crop_unit_y sub_height_c mono
-returns-in-Mono c = rw c.enum_told-1.given.1 refl
+returns-in-Mono c = rw c.in-Mono.is refl
 
 pub returns-in-Colour : goal.returns-in-Colour
 unfolding crop_unit_y sub_height_c mono
-returns-in-Colour c = rw c.enum_told-in-Colour-1.given.1 refl
+returns-in-Colour c = rw c.in-Colour.is refl

@@ -9,8 +9,8 @@ returns-then-p-eq0 c = rw c.if-p-eq0.true refl
 
 pub returns-in-Mono : goal.returns-in-Mono
 unfolding block_width sub_width_c mono
-returns-in-Mono c = rw (in_chroma _ _ _ _ c.if-p-eq0.false, c.enum_told-1.given.1) refl
+returns-in-Mono c = rw (in_chroma _ _ _ _ c.if-p-eq0.false, c.in-Mono.is) refl
 
 pub returns-in-Colour : goal.returns-in-Colour
 unfolding block_width sub_width_c mono
-returns-in-Colour c = rw (in_chroma _ _ _ _ c.if-p-eq0.false, c.enum_told-in-Colour-1.given.1) refl
+returns-in-Colour c = rw (in_chroma _ _ _ _ c.if-p-eq0.false, c.in-Colour.is) refl

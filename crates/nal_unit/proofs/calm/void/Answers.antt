@@ -1,5 +1,5 @@
 -- `nal_unit::calm::void` meets its contract. The loop's invariant: the test of all is that of the bytes gathered and of those to come. Assumes nothing.
-use Rattle.std.proofs.Common.{refl, ◌+◌, ◌-◌, get_or, rules}
+use Rattle.std.proofs.Common.{refl, ◌+◌, get_or, rules}
 use Rattle.lists.specs.Flag.{flag_start, flag-or, flag_end}
 use Rattle.nal_unit.specs.CalmCode.{zero_at}
 use Rattle.nal_unit.proofs.calm.void.Goals as goal

@@ -7,9 +7,9 @@ use Rattle.nal_unit.proofs.count.count64.Goals as goal
 pub returns-then-calm : goal.returns-then-calm
 returns-then-calm c =
     rw c.zeros_before-y.ensures
-    (counts-quiet c.args.s.now c.args.p 62 c.args.z c.requires.z_bound.0 c.requires.le_p.1
-    (quiet-part c.args.s.now c.args.p 64 c.args.z c.requires.le_p.1 c.requires.z_bound.0 c.requires.z_bound.1 (sym c.calm.ensures ∙ c.if-calm.true)))
+    (counts-quiet c.args.s.now c.args.p 62 c.args.z c.requires.z_bound c.requires.le_p.1
+    (quiet-part c.args.s.now c.args.p 64 c.args.z c.requires.le_p.1 c.requires.z_bound c.requires.z_bound_2 (sym c.calm.ensures ∙ c.if-calm.true)))
 
 pub returns-then-void : goal.returns-then-void
 returns-then-void c =
-    rw (zero-part c.args.s.now c.args.p 64 c.requires.le_p.1 (sym c.void.ensures ∙ c.if-void.true)) (counts-blanks c.args.z c.if-z-gt0.true c.requires.z_bound.0)
+    rw (zero-part c.args.s.now c.args.p 64 c.requires.le_p.1 (sym c.void.ensures ∙ c.if-void.true)) (counts-blanks c.args.z c.if-z-gt0.true c.requires.z_bound)

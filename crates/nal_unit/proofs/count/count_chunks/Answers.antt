@@ -1,5 +1,5 @@
 -- `nal_unit::count::count_chunks` meets its contract. The loop's invariant: what is counted, what is still to come, and how many zeros stand before it. Assumes nothing.
-use Rattle.std.proofs.Common.{◌≡◌, ◌+◌, ◌-◌, arith, length}
+use Rattle.std.proofs.Common.{◌≡◌, ◌+◌, arith, length}
 use Rattle.lists.specs.Part.{part, part_length}
 use Rattle.nal_unit.specs.CountCode.{Counts, counts-fit, Passing, passing_start, passing_turn, passing_end}
 use Rattle.nal_unit.proofs.count.count_chunks.Goals as goal
@@ -19,7 +19,7 @@ wide2 : (a : goal.After-struct_known-2-1) → length (part a.args.s.now a.args.p
 wide2 a = part_length a.args.s.now a.args.p a.args.n a.requires.le_p.1
 
 pub loop-k-init : goal.loop-k-init
-loop-k-init c = passing_start c.args.s.now c.args.p c.args.n c.args.z c.requires.z_bound.0 c.requires.z_bound.1
+loop-k-init c = passing_start c.args.s.now c.args.p c.args.n c.args.z c.requires.z_bound c.requires.z_bound_2
 
 pub overflow_add-m : goal.overflow_add-m
 overflow_add-m c = let g = step c in omega (arith, wide1 c, c)
@@ -28,7 +28,7 @@ pub loop-k-preserved : goal.loop-k-preserved
 loop-k-preserved c = step c
 
 pub overflow_add-result : goal.overflow_add-result
-overflow_add-result c = omega (arith, counts-fit c.requires.z_bound.0 (total c), wide2 c, c)
+overflow_add-result c = omega (arith, counts-fit c.requires.z_bound (total c), wide2 c, c)
 
 pub returns : goal.returns
 returns c = total c

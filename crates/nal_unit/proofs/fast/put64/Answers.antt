@@ -8,53 +8,35 @@ use Rattle.nal_unit.specs.CalmCode.{quiet-part, blanks, blanks-size, zero-part}
 use Rattle.nal_unit.specs.PutCode.{put-quiet}
 use Rattle.nal_unit.proofs.fast.put64.Goals as goal
 
-abbrev S1 : goal.After-put_zeros1-arg-1 → goal.After-put_zeros1-arg-1
-S1 c = c
-
-abbrev S2 : goal.After-slice_known-then-z-eq1-1 → goal.After-slice_known-then-z-eq1-1
-S2 c = c
-
-abbrev S3 : goal.After-put_zeros2-arg-1 → goal.After-put_zeros2-arg-1
-S3 c = c
-
-abbrev S4 : goal.After-slice_known-then-void-1 → goal.After-slice_known-then-void-1
-S4 c = c
-
-all_zero1 : (c : goal.After-put_zeros1-arg-1) → let a = S1 c in part a.args.s.now a.args.p 64 ≡ blanks 64
+all_zero1 : (c : goal.After-put_zeros1-arg-1) → part c.args.s.now c.args.p 64 ≡ blanks 64
 all_zero1 c =
-    let a = S1 c in
-    zero-part a.args.s.now a.args.p 64 a.pre.0.1 (sym c.void.ensures ∙ c.if-void.true)
+    zero-part c.args.s.now c.args.p 64 c.requires.le_p.1 (sym c.void.ensures ∙ c.if-void.true)
 
-all_zero2 : (c : goal.After-slice_known-then-z-eq1-1) → let a = S2 c in part a.args.s.now a.args.p 64 ≡ blanks 64
+all_zero2 : (c : goal.After-slice_known-then-z-eq1-1) → part c.args.s.now c.args.p 64 ≡ blanks 64
 all_zero2 c =
-    let a = S2 c in
-    zero-part a.args.s.now a.args.p 64 a.pre.0.1 (sym c.void.ensures ∙ c.if-void.true)
+    zero-part c.args.s.now c.args.p 64 c.requires.le_p.1 (sym c.void.ensures ∙ c.if-void.true)
 
-all_zero3 : (c : goal.After-put_zeros2-arg-1) → let a = S3 c in part a.args.s.now a.args.p 64 ≡ blanks 64
+all_zero3 : (c : goal.After-put_zeros2-arg-1) → part c.args.s.now c.args.p 64 ≡ blanks 64
 all_zero3 c =
-    let a = S3 c in
-    zero-part a.args.s.now a.args.p 64 a.pre.0.1 (sym c.void.ensures ∙ c.if-void.true)
+    zero-part c.args.s.now c.args.p 64 c.requires.le_p.1 (sym c.void.ensures ∙ c.if-void.true)
 
-all_zero4 : (c : goal.After-slice_known-then-void-1) → let a = S4 c in part a.args.s.now a.args.p 64 ≡ blanks 64
+all_zero4 : (c : goal.After-slice_known-then-void-1) → part c.args.s.now c.args.p 64 ≡ blanks 64
 all_zero4 c =
-    let a = S4 c in
-    zero-part a.args.s.now a.args.p 64 a.pre.0.1 (sym c.void.ensures ∙ c.if-void.true)
+    zero-part c.args.s.now c.args.p 64 c.requires.le_p.1 (sym c.void.ensures ∙ c.if-void.true)
 
-zero_room1 : (c : goal.After-put_zeros1-arg-1) → let a = S1 c in a.args.at + 96 ≤ length a.args.out.now
+zero_room1 : (c : goal.After-put_zeros1-arg-1) → c.args.at + 96 ≤ length c.args.out.now
 zero_room1 c =
-    let a = S1 c in
-    let m = counted a.args.out.now a.args.at in
-    let e : length (esc_from m (part a.args.s.now a.args.p 64)) ≡ 96 =
-    rw (all_zero1 c) (blanks-size m (omega (arith, c.zeros_before-z.ensures)) (counted_most a.args.out.now a.args.at)) in
-    omega (arith, a.pre, e)
+    let m = counted c.args.out.now c.args.at in
+    let e : length (esc_from m (part c.args.s.now c.args.p 64)) ≡ 96 =
+    rw (all_zero1 c) (blanks-size m (omega (arith, c.zeros_before-z.ensures)) (counted_most c.args.out.now c.args.at)) in
+    omega (arith, c.requires, e)
 
-zero_room2 : (c : goal.After-put_zeros2-arg-1) → let a = S3 c in a.args.at + 96 ≤ length a.args.out.now
+zero_room2 : (c : goal.After-put_zeros2-arg-1) → c.args.at + 96 ≤ length c.args.out.now
 zero_room2 c =
-    let a = S3 c in
-    let m = counted a.args.out.now a.args.at in
-    let e : length (esc_from m (part a.args.s.now a.args.p 64)) ≡ 96 =
-    rw (all_zero3 c) (blanks-size m (omega (arith, c.zeros_before-z.ensures)) (counted_most a.args.out.now a.args.at)) in
-    omega (arith, a.pre, e)
+    let m = counted c.args.out.now c.args.at in
+    let e : length (esc_from m (part c.args.s.now c.args.p 64)) ≡ 96 =
+    rw (all_zero3 c) (blanks-size m (omega (arith, c.zeros_before-z.ensures)) (counted_most c.args.out.now c.args.at)) in
+    omega (arith, c.requires, e)
 
 not_one : (z : ℕ) → (z ≡ 1 → ⊥) → 0 < z → z ≤ 2 → z ≡ 2
 not_one z n h l = either z 1 (λ a. absurd (n (omega arith))) (λ b. omega arith)
@@ -67,7 +49,7 @@ copy64-requires c =
 pub returns-then-calm : goal.returns-then-calm
 returns-then-calm c =
     put-quiet c.args.out.now c.args.at
-    (quiet-part c.args.s.now c.args.p 64 (counted c.args.out.now c.args.at) c.requires.le_p.1 (counted_most c.args.out.now c.args.at) c.requires.le_at.1.1 (sym c.calm.ensures ∙ c.if-calm.true))
+    (quiet-part c.args.s.now c.args.p 64 (counted c.args.out.now c.args.at) c.requires.le_p.1 (counted_most c.args.out.now c.args.at) c.requires.at_bound (sym c.calm.ensures ∙ c.if-calm.true))
     c.copy64.ensures
     (rw (part_length c.args.s.now c.args.p 64 c.requires.le_p.1) refl)
 
@@ -80,8 +62,7 @@ returns-then-z-eq1 c = rw (all_zero2 c) c.put_zeros1.ensures
 
 pub put_zeros2-requires : goal.put_zeros2-requires
 put_zeros2-requires c =
-    let z = c.zeros_before-z in
-    let a = S3 c in record { at_value = sym z.ensures ∙ not_one z.result c.if-z-eq1.false (omega arith) (rw z.ensures (counted_most a.args.out.now a.args.at)); at_in_bounds = zero_room2 c }
+    let z = c.zeros_before-z in record { at_value = sym z.ensures ∙ not_one z.result c.if-z-eq1.false (omega arith) (rw z.ensures (counted_most c.args.out.now c.args.at)); at_in_bounds = zero_room2 c }
 
 pub returns-then-void : goal.returns-then-void
 returns-then-void c = rw (all_zero4 c) c.put_zeros2.ensures

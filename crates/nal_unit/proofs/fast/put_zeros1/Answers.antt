@@ -1,5 +1,5 @@
 -- `nal_unit::fast::put_zeros1` meets its contract: what is copied is the escape of 64 zeros. Assumes nothing.
-use Rattle.std.proofs.Common.{◌-◌, arith, rules}
+use Rattle.std.proofs.Common.{arith, rules}
 use Rattle.lists.specs.Copy.{copy_start, copy_turn, copy_end}
 use Rattle.nal_unit.specs.CalmCode.{triples, triples-length, blanks_one}
 use Rattle.nal_unit.specs.PutCode.{put-blanks}

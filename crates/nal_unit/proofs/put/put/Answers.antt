@@ -5,23 +5,17 @@ use Rattle.nal_unit.specs.EscapeCode.{counted, esc-hit, esc-plain}
 use Rattle.nal_unit.specs.PutCode.{put-hit, put-plain}
 use Rattle.nal_unit.proofs.put.put.Goals as goal
 
-abbrev S1 : goal.Then-wants3 → goal.Then-wants3
-S1 c = c
-
-abbrev S2 : goal.Else-wants3 → goal.Else-wants3
-S2 c = c
-
-hit : (c : goal.Then-wants3) → inserts (counted (S1 c).args.out.now (S1 c).args.at) (S1 c).args.b ≡ true
+hit : (c : goal.Then-wants3) → inserts (counted c.args.out.now c.args.at) c.args.b ≡ true
 hit c = sym c.wants3.ensures ∙ c.if-wants3.true
 
-hit_room : (c : goal.Then-wants3) → (S1 c).args.at + 2 ≤ length (S1 c).args.out.now
-hit_room c = omega (arith, (S1 c).requires, ap length (esc-hit (counted (S1 c).args.out.now (S1 c).args.at) (S1 c).args.b (hit c)))
+hit_room : (c : goal.Then-wants3) → c.args.at + 2 ≤ length c.args.out.now
+hit_room c = omega (arith, c.requires, ap length (esc-hit (counted c.args.out.now c.args.at) c.args.b (hit c)))
 
-plain : (c : goal.Else-wants3) → inserts (counted (S2 c).args.out.now (S2 c).args.at) (S2 c).args.b ≡ false
+plain : (c : goal.Else-wants3) → inserts (counted c.args.out.now c.args.at) c.args.b ≡ false
 plain c = sym c.wants3.ensures ∙ c.if-wants3.false
 
-plain_room : (c : goal.Else-wants3) → (S2 c).args.at + 1 ≤ length (S2 c).args.out.now
-plain_room c = omega (arith, (S2 c).requires, ap length (esc-plain (counted (S2 c).args.out.now (S2 c).args.at) (S2 c).args.b (plain c)))
+plain_room : (c : goal.Else-wants3) → c.args.at + 1 ≤ length c.args.out.now
+plain_room c = omega (arith, c.requires, ap length (esc-plain (counted c.args.out.now c.args.at) c.args.b (plain c)))
 
 pub bounds-out-at : goal.bounds-out-at
 bounds-out-at c = omega (arith, hit_room c)
@@ -30,10 +24,10 @@ pub bounds-out-at-then-wants3 : goal.bounds-out-at-then-wants3
 bounds-out-at-then-wants3 c = simp length-set (omega (arith, hit_room c))
 
 pub returns-then-wants3 : goal.returns-then-wants3
-returns-then-wants3 c = put-hit (S1 c).args.out.now (S1 c).args.at (S1 c).args.b (hit c) (hit_room c)
+returns-then-wants3 c = put-hit c.args.out.now c.args.at c.args.b (hit c) (hit_room c)
 
 pub bounds-out-at-2 : goal.bounds-out-at-2
 bounds-out-at-2 c = omega (arith, plain_room c)
 
 pub returns : goal.returns
-returns c = put-plain (S2 c).args.out.now (S2 c).args.at (S2 c).args.b (plain c) (plain_room c)
+returns c = put-plain c.args.out.now c.args.at c.args.b (plain c) (plain_room c)

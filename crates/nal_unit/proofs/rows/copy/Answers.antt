@@ -1,5 +1,5 @@
 -- `nal_unit::rows::copy` meets its contract, by the laws of a copy of any width. Assumes nothing.
-use Rattle.std.proofs.Common.{◌≡◌, ◌-◌, arith, length, rules}
+use Rattle.std.proofs.Common.{◌≡◌, arith, length, rules}
 use Rattle.lists.specs.Part.{part, part_length}
 use Rattle.lists.specs.Copy.{copy_start, copy-part, copy_end}
 use Rattle.nal_unit.proofs.rows.copy.Goals as goal

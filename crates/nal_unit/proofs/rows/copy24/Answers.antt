@@ -6,4 +6,4 @@ use Rattle.nal_unit.proofs.rows.copy24.Goals as goal
 pub returns : goal.returns
 returns c =
     let a = c.args in
-    c.store.ensures ∙ ap (λ (row : List ℕ). splice a.out-1.now a.at row) c.load.ensures
+    c.store.ensures ∙ ap (λ (row : List ℕ). splice a.out.now a.at row) c.load.ensures

@@ -1,5 +1,5 @@
 -- `nal_unit::rows::load` meets its contract: after k turns, k bytes of the row are filled. Assumes nothing.
-use Rattle.std.proofs.Common.{◌≡◌, ◌∙◌, ◌-◌, zero-add, arith, length, rules}
+use Rattle.std.proofs.Common.{◌≡◌, ◌∙◌, zero-add, arith, length, rules}
 use Rattle.lists.specs.Part.{part, part_length}
 use Rattle.lists.specs.Copy.{copy_start, copy-part, copy_end}
 use Rattle.lists.specs.Fill.{splice_whole}

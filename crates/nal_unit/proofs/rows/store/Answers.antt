@@ -1,5 +1,5 @@
 -- `nal_unit::rows::store` meets its contract: after k turns, k bytes of the row are written. Assumes nothing.
-use Rattle.std.proofs.Common.{◌≡◌, ◌-◌, arith, length, rules}
+use Rattle.std.proofs.Common.{◌≡◌, arith, length, rules}
 use Rattle.lists.specs.Copy.{copy_start, copy_turn, copy_end}
 use Rattle.nal_unit.proofs.rows.store.Goals as goal
 

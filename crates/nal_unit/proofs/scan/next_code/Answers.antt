@@ -1,5 +1,5 @@
 -- `nal_unit::scan::next_code` meets its contract. The invariant: the next start code is that from the place reached on. Assumes nothing.
-use Rattle.std.proofs.Common.{sym, ◌∙◌, ◌-◌, arith, drop, length-drop, rules}
+use Rattle.std.proofs.Common.{sym, ◌∙◌, arith, drop, length-drop, rules}
 use Rattle.nal_unit.specs.StartCode.{next_le}
 use Rattle.nal_unit.proofs.scan.next_code.Goals as goal
 

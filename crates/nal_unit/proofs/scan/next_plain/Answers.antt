@@ -1,5 +1,5 @@
 -- `nal_unit::scan::next_plain` meets its contract. The invariant: the next start code is that from the place reached on. Assumes nothing.
-use Rattle.std.proofs.Common.{sym, ◌∙◌, ◌-◌, arith, rules}
+use Rattle.std.proofs.Common.{sym, ◌∙◌, arith, rules}
 use Rattle.nal_unit.specs.Scan.{next_at, next_step, next_short}
 use Rattle.nal_unit.proofs.scan.next_plain.Goals as goal
 

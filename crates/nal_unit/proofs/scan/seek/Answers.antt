@@ -1,5 +1,5 @@
 -- `nal_unit::scan::seek` meets its contract. The invariant: the search has reached the place i. Assumes nothing.
-use Rattle.std.proofs.Common.{inl, inr, ◌+◌, ◌-◌, arith}
+use Rattle.std.proofs.Common.{◌+◌, arith}
 use Rattle.nal_unit.specs.Kept.{flat_none}
 use Rattle.nal_unit.specs.ScanCode.{seek_start, seek_more, seek_past, seek_on}
 use Rattle.nal_unit.proofs.scan.seek.Goals as goal
@@ -19,8 +19,8 @@ pub loop-i-preserved : goal.loop-i-preserved
 loop-i-preserved c =
     let g = c.loop-i.invariant in
     elim c.if-low64-ne0.branch [
-      | inl w ↦ rw w.3 (seek_past g (omega arith) (w.1.ensures (omega (arith, w.2.left))))
-      | inr w ↦ rw w.1 (seek_more g (c.low64.ensures (omega (arith, w.0.left))))
+      | goal.then-low64-ne0+else-fault64-ne0 w ↦ rw w.c-is (seek_past g (omega arith) (w.fault64.ensures (omega (arith, w.if-fault64-ne0.false))))
+      | goal.else-low64-ne0 w ↦ rw w.c-is (seek_more g (c.low64.ensures (omega (arith, w.if-low64-ne0.false))))
     ]
 
 pub seek_plain-requires-2 : goal.seek_plain-requires-2

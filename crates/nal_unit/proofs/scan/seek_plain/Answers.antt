@@ -1,5 +1,5 @@
 -- `nal_unit::scan::seek_plain` meets its contract. The invariant: the search has reached the place i. Assumes nothing.
-use Rattle.std.proofs.Common.{sym, ◌∙◌, inl, inr, ◌-◌, arith}
+use Rattle.std.proofs.Common.{sym, ◌∙◌, arith}
 use Rattle.nal_unit.specs.ScanCode.{seek_start, seek-keep, seek-raise, seek_found, seek_end}
 use Rattle.nal_unit.proofs.scan.seek_plain.Goals as goal
 
@@ -13,8 +13,8 @@ pub loop-i-preserved : goal.loop-i-preserved
 loop-i-preserved c =
     let g = c.loop-i.invariant in
     elim c.if-low_at.branch [
-      | inl w ↦ rw w.3 (seek-raise g (omega arith) (sym w.1.ensures ∙ w.2.left))
-      | inr w ↦ rw w.1 (seek-keep g (omega arith) (c.low_at.ensures w.0.left))
+      | goal.then-low_at+else-fault_at w ↦ rw w.c-is (seek-raise g (omega arith) (sym w.fault_at.ensures ∙ w.if-fault_at.false))
+      | goal.else-low_at w ↦ rw w.c-is (seek-keep g (omega arith) (c.low_at.ensures w.if-low_at.false))
     ]
 
 pub returns : goal.returns

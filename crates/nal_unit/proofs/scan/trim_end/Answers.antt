@@ -1,6 +1,6 @@
 -- `nal_unit::scan::trim_end` meets its contract. The invariant: the bytes to the place reached, less their trailing zeros, are those to the end, less
 -- theirs. Assumes nothing.
-use Rattle.std.proofs.Common.{◌≡◌, sym, ap, ◌∙◌, List, ℕ, ◌+◌, ◌-◌, arith, length, take, drop}
+use Rattle.std.proofs.Common.{◌≡◌, sym, ap, ◌∙◌, [], List, ℕ, ◌+◌, ◌-◌, arith, length, take, drop}
 use Rattle.nal_unit.specs.ScanCode.{trim_back, trim-stay}
 use Rattle.nal_unit.specs.Walk.{trim}
 use Rattle.nal_unit.specs.Scan.{trim_none}

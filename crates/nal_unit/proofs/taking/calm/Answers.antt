@@ -1,5 +1,5 @@
 -- `nal_unit::taking::calm` meets its contract: a flag that is raised at an inserted byte. Assumes nothing.
-use Rattle.std.proofs.Common.{sym, ◌∙◌, inl, inr, ◌+◌, ◌-◌, add-zero, add_assoc, arith, rules}
+use Rattle.std.proofs.Common.{sym, ◌∙◌, ◌+◌, add-zero, add_assoc, arith, rules}
 use Rattle.nal_unit.specs.TakingCode.{calm_start, calm-keep, calm-raise, calm_end}
 use Rattle.nal_unit.proofs.taking.calm.Goals as goal
 
@@ -14,8 +14,8 @@ loop-k-preserved c =
     let t = c.inserted_at.ensures in (
       search rules,
       rw (← add_assoc a.p c.loop-k.k 1) (elim c.if-inserted_at.branch [
-        | inl w ↦ rw w.1 (calm-raise c.loop-k.invariant.1 (omega arith) (omega arith) (omega arith) (sym t ∙ w.0.taken))
-        | inr w ↦ rw w.1 (calm-keep c.loop-k.invariant.1 (omega arith) (omega arith) (omega arith) (sym t ∙ w.0.left))
+        | goal.then-inserted_at w ↦ rw w.f-is (calm-raise c.loop-k.invariant.1 (omega arith) (omega arith) (omega arith) (sym t ∙ w.if-inserted_at.true))
+        | goal.else-inserted_at w ↦ rw w.f-is (calm-keep c.loop-k.invariant.1 (omega arith) (omega arith) (omega arith) (sym t ∙ w.if-inserted_at.false))
       ]),
     )
 

@@ -1,5 +1,5 @@
 -- `nal_unit::taking::count_few` meets its contract: after k turns the inserted ones among k bytes are counted. Assumes nothing.
-use Rattle.std.proofs.Common.{◌+◌, ◌-◌, add-zero, add_assoc, arith, rules}
+use Rattle.std.proofs.Common.{◌+◌, add-zero, add_assoc, arith, rules}
 use Rattle.nal_unit.specs.TakingCode.{count_start, count_turn, count-done}
 use Rattle.nal_unit.proofs.taking.count_few.Goals as goal
 

@@ -1,5 +1,5 @@
 -- `nal_unit::taking::count_inserted` meets its contract: the inserted ones up to q are counted. Assumes nothing.
-use Rattle.std.proofs.Common.{ap, ◌∙◌, ℕ, ◌+◌, ◌-◌, arith}
+use Rattle.std.proofs.Common.{ap, ◌∙◌, ℕ, ◌+◌, arith}
 use Rattle.nal_unit.specs.Kept.{ins_count}
 use Rattle.nal_unit.specs.TakingCode.{Counting, count_start, count_more, count-done}
 use Rattle.nal_unit.proofs.taking.count_inserted.Goals as goal

@@ -1,5 +1,5 @@
 -- `nal_unit::taking::pairs` meets its contract: a flag that is raised where a byte is not as the one three further on. Assumes nothing.
-use Rattle.std.proofs.Common.{sym, ◌∙◌, inl, inr, ◌-◌, arith, rules}
+use Rattle.std.proofs.Common.{sym, ◌∙◌, arith, rules}
 use borrow.Author.Tests.{not-true, not-false}
 use Rattle.lists.specs.Flag.{flag_start}
 use Rattle.nal_unit.specs.TakingCode.{pairs_not, alike-raise, alike-keep, pairs_end}
@@ -18,8 +18,8 @@ loop-k-preserved c =
     let l = c.loop-k in
     let s = c.args.s.now in
     elim c.if-s-p.branch [
-      | inl w ↦ (omega arith, rw w.1 (alike-raise s l.invariant.1 (omega arith) w.0.taken))
-      | inr w ↦ (omega arith, rw w.1 (alike-keep s l.invariant.1 (omega arith) w.0.left))
+      | goal.then-s-p w ↦ (omega arith, rw w.f-is (alike-raise s l.invariant.1 (omega arith) w.if-s-p.true))
+      | goal.else-s-p w ↦ (omega arith, rw w.f-is (alike-keep s l.invariant.1 (omega arith) w.if-s-p.false))
     ]
 
 pub returns : goal.returns

@@ -5,13 +5,13 @@ use Rattle.nal_unit.specs.Taking.{pass-calm, calm_behind}
 use Rattle.nal_unit.proofs.taking.pass.Goals as goal
 
 room1 : (c : goal.Then-c-p) → let a = c.args in a.p + a.n ≤ a.e
-room1 c = let a = c.args in kept_room a.s.now a.p a.e a.n (omega arith) (omega arith) c.requires.n_in_bounds.0
+room1 c = let a = c.args in kept_room a.s.now a.p a.e a.n (omega arith) (omega arith) c.requires.n_in_bounds
 
 room2 : (c : goal.Else-c-p) → let a = c.args in a.p + a.n ≤ a.e
-room2 c = let a = c.args in kept_room a.s.now a.p a.e a.n (omega arith) (omega arith) c.requires.n_in_bounds.0
+room2 c = let a = c.args in kept_room a.s.now a.p a.e a.n (omega arith) (omega arith) c.requires.n_in_bounds
 
 room3 : (c : goal.Then-calm) → let a = c.args in a.p + a.n ≤ a.e
-room3 c = let a = c.args in kept_room a.s.now a.p a.e a.n (omega arith) (omega arith) c.requires.n_in_bounds.0
+room3 c = let a = c.args in kept_room a.s.now a.p a.e a.n (omega arith) (omega arith) c.requires.n_in_bounds
 
 pub overflow_add-result : goal.overflow_add-result
 overflow_add-result c = omega (arith, room1 c)
@@ -20,7 +20,7 @@ pub returns-then-c-p : goal.returns-then-c-p
 returns-then-c-p c =
     let a = c.args in
     let r = room1 c in
-    pass-calm a.p a.e a.n (omega arith) r (omega arith) (calm_behind a.s.now a.c a.p a.e a.n (omega arith) (omega arith) r (omega arith) c.requires.n_in_bounds.1)
+    pass-calm a.p a.e a.n (omega arith) r (omega arith) (calm_behind a.s.now a.c a.p a.e a.n (omega arith) (omega arith) r (omega arith) c.requires.e_value)
 
 pub calm-requires : goal.calm-requires
 calm-requires c = let r = room2 c in search rules

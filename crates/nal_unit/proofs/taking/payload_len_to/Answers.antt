@@ -7,7 +7,7 @@ sum : (c : goal.After-count_inserted) → let a = c.args in length (kept a.s.now
 sum c =
     let a = c.args in
     let s = a.s.now in
-    omega (arith, c.count_inserted.ensures, c.requires.nonzero.1, kept-length s (a.o + 1) a.e (omega arith) (omega arith), count-append s (a.o + 1) a.c a.e (omega arith) (omega arith) (omega arith))
+    omega (arith, c.count_inserted.ensures, c.requires.e_value, kept-length s (a.o + 1) a.e (omega arith) (omega arith), count-append s (a.o + 1) a.c a.e (omega arith) (omega arith) (omega arith))
 
 pub overflow_sub-result-then-c-e : goal.overflow_sub-result-then-c-e
 overflow_sub-result-then-c-e c = omega (arith, sum c)
@@ -16,4 +16,4 @@ pub returns-then-c-e : goal.returns-then-c-e
 returns-then-c-e c =
     let a = c.args in
     let e : a.e - (a.o + 1) - c.count_inserted.result ≡ length (kept a.s.now (a.o + 1) a.e) = omega (arith, sum c) in
-    e ∙ ap length (kept-un a.s.now a.o a.e (omega arith) (omega arith) c.requires.nonzero.0)
+    e ∙ ap length (kept-un a.s.now a.o a.e (omega arith) (omega arith) c.requires.nonzero)

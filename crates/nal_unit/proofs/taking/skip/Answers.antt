@@ -1,5 +1,5 @@
 -- `nal_unit::taking::skip` meets its contract: of the n bytes, those before q are passed, and `left` are not. Assumes nothing.
-use Rattle.std.proofs.Common.{◌≡◌, ◌-◌, arith, rules}
+use Rattle.std.proofs.Common.{◌≡◌, arith, rules}
 use Rattle.nal_unit.specs.TakingCode.{skip_start, skip_turn, skip_end}
 use Rattle.nal_unit.proofs.taking.skip.Goals as goal
 

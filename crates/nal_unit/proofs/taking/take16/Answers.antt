@@ -7,13 +7,13 @@ use Rattle.nal_unit.proofs.taking.take16.Goals as goal
 
 -- the row is in the unit
 fits1 : (k : goal.After-slice_known-1) → k.args.p + 16 ≤ k.args.e
-fits1 k = kept_room k.args.s.now k.args.p k.args.e 16 k.requires.le_p.1 k.requires.le_p.2 k.requires.in_bounds.0
+fits1 k = kept_room k.args.s.now k.args.p k.args.e 16 k.requires.le_p.1 k.requires.le_p.2 k.requires.in_bounds
 
 fits2 : (k : goal.After-copy16-arg-1) → k.args.p + 16 ≤ k.args.e
-fits2 k = kept_room k.args.s.now k.args.p k.args.e 16 k.requires.le_p.1 k.requires.le_p.2 k.requires.in_bounds.0
+fits2 k = kept_room k.args.s.now k.args.p k.args.e 16 k.requires.le_p.1 k.requires.le_p.2 k.requires.in_bounds
 
 fits3 : (k : goal.After-slice_known-then-calm-1) → k.args.p + 16 ≤ k.args.e
-fits3 k = kept_room k.args.s.now k.args.p k.args.e 16 k.requires.le_p.1 k.requires.le_p.2 k.requires.in_bounds.0
+fits3 k = kept_room k.args.s.now k.args.p k.args.e 16 k.requires.le_p.1 k.requires.le_p.2 k.requires.in_bounds
 
 pub calm-requires : goal.calm-requires
 calm-requires c = let f = fits1 c in (omega arith, omega arith)

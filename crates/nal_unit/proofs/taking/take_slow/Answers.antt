@@ -1,21 +1,15 @@
 -- `nal_unit::taking::take_slow` meets its contract: i bytes are taken, and what stands behind them is written over until all are. Assumes nothing.
-use Rattle.std.proofs.Common.{◌+◌, ◌-◌, ◌<◌, arith, get_or, set}
+use Rattle.std.proofs.Common.{◌+◌, ◌<◌, arith, get_or, set}
 use Rattle.nal_unit.specs.Kept.{kept_some}
 use Rattle.nal_unit.specs.TakingCode.{Taking, taking_start, taking-length, taking_some, taking_turn, taking_end}
 use Rattle.nal_unit.proofs.taking.take_slow.Goals as goal
 
-abbrev S1 : goal.After-shared_slice_known-in-loop-i-1 → goal.After-shared_slice_known-in-loop-i-1
-S1 k = k
-
-abbrev S2 : goal.After-plain_at-i → goal.After-plain_at-i
-S2 k = k
-
 -- in a turn the place is before the unit's end
-inside1 : (k : goal.After-shared_slice_known-in-loop-i-1) → k.loop-i.q < (S1 k).args.e
-inside1 k = let a = (S1 k).args in kept_some a.s.now k.loop-i.q a.e (taking_some k.loop-i.invariant k.loop-i-test.true)
+inside1 : (k : goal.After-shared_slice_known-in-loop-i-1) → k.loop-i.q < k.args.e
+inside1 k = let a = k.args in kept_some a.s.now k.loop-i.q a.e (taking_some k.loop-i.invariant k.loop-i-test.true)
 
-inside2 : (k : goal.After-plain_at-i) → k.loop-i.q < (S2 k).args.e
-inside2 k = let a = (S2 k).args in kept_some a.s.now k.loop-i.q a.e (taking_some k.loop-i.invariant k.loop-i-test.true)
+inside2 : (k : goal.After-plain_at-i) → k.loop-i.q < k.args.e
+inside2 k = let a = k.args in kept_some a.s.now k.loop-i.q a.e (taking_some k.loop-i.invariant k.loop-i-test.true)
 
 pub loop-i-init : goal.loop-i-init
 loop-i-init c =
@@ -33,7 +27,7 @@ plain_at-i-requires c = let i = inside1 c in (omega arith, omega arith)
 
 next : (c : goal.After-plain_at-i)
     →
-    let a = (S2 c).args in
+    let a = c.args in
     Taking a.s.now a.p a.e a.n a.out.now a.at (set c.loop-i.out (a.at + c.loop-i.i) (get_or a.s.now c.loop-i.q 0)) (c.loop-i.q + 1) (c.loop-i.i + c.plain_at-i.result)
 next c = taking_turn c.loop-i.invariant c.loop-i-test.true (omega arith) (omega arith) c.plain_at-i.ensures
 

@@ -1,5 +1,5 @@
 -- `nal_unit::taking::write_zeros` meets its contract: after k turns, k of a row of zeros are written. Assumes nothing.
-use Rattle.std.proofs.Common.{◌≡◌, ℕ, ◌-◌, arith, length, replicate, rules}
+use Rattle.std.proofs.Common.{◌≡◌, ℕ, arith, length, replicate, rules}
 use lib.ListN.{length-replicate, get_or-replicate}
 use Rattle.lists.specs.Copy.{copy_start, copy_turn, copy_end}
 use Rattle.nal_unit.proofs.taking.write_zeros.Goals as goal

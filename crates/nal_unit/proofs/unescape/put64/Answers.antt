@@ -29,15 +29,15 @@ returns-then-calm c =
     unescapes_as (part a.s.now a.p 64) (whole2 c) c.copy64.ensures (omega (arith, part_length a.s.now a.p 64 (omega arith)))
 
 -- the stretch is begun
-begun1 : (c : goal.After-write_zeros-arg-1) → let a = c.args in Unescaping a.s.now a.p (a.p + 64) a.out-1.now a.a a.out-1.now a.a a.p
+begun1 : (c : goal.After-write_zeros-arg-1) → let a = c.args in Unescaping a.s.now a.p (a.p + 64) a.out.now a.a a.out.now a.a a.p
 begun1 c =
     unescaping_start c.args.s.now c.args.p (c.args.p + 64) c.args.out.now c.args.a (omega arith) (omega arith) (omega arith) c.requires.p_in_bounds
 
-begun2 : (c : goal.After-put_byte-arg-1) → let a = c.args in Unescaping a.s.now a.p (a.p + 64) a.out-1.now a.a a.out-1.now a.a a.p
+begun2 : (c : goal.After-put_byte-arg-1) → let a = c.args in Unescaping a.s.now a.p (a.p + 64) a.out.now a.a a.out.now a.a a.p
 begun2 c =
     unescaping_start c.args.s.now c.args.p (c.args.p + 64) c.args.out.now c.args.a (omega arith) (omega arith) (omega arith) c.requires.p_in_bounds
 
-begun3 : (c : goal.After-slice_known-then-pairs-2-1) → let a = c.args in Unescaping a.s.now a.p (a.p + 64) a.out-1.now a.a a.out-1.now a.a a.p
+begun3 : (c : goal.After-slice_known-then-pairs-2-1) → let a = c.args in Unescaping a.s.now a.p (a.p + 64) a.out.now a.a a.out.now a.a a.p
 begun3 c =
     unescaping_start c.args.s.now c.args.p (c.args.p + 64) c.args.out.now c.args.a (omega arith) (omega arith) (omega arith) c.requires.p_in_bounds
 
@@ -64,13 +64,13 @@ write_zeros-requires c =
 -- and are written
 written1 : (c : goal.After-put_byte-arg-1)
     → let a = c.args in
-    Unescaping a.s.now a.p (a.p + 64) a.out-1.now a.a c.write_zeros.new.out (a.a + 42) (a.p + 63)
+    Unescaping a.s.now a.p (a.p + 64) a.out.now a.a c.write_zeros.new.out (a.a + 42) (a.p + 63)
 written1 c =
     unescaping_turn (begun2 c) (unescapes_as (replicate 42 0) (zeros2 c) c.write_zeros.ensures refl) (omega arith) (omega arith)
 
 written2 : (c : goal.After-slice_known-then-pairs-2-1)
     → let a = c.args in
-    Unescaping a.s.now a.p (a.p + 64) a.out-1.now a.a c.write_zeros.new.out (a.a + 42) (a.p + 63)
+    Unescaping a.s.now a.p (a.p + 64) a.out.now a.a c.write_zeros.new.out (a.a + 42) (a.p + 63)
 written2 c =
     unescaping_turn (begun3 c) (unescapes_as (replicate 42 0) (zeros3 c) c.write_zeros.ensures refl) (omega arith) (omega arith)
 

@@ -10,13 +10,13 @@ copy-requires c = record { n_in_bounds = omega arith; n_in_bounds_2 = omega (ari
 pub returns-then-s-lt2 : goal.returns-then-s-lt2
 returns-then-s-lt2 c =
     let a = c.args in
-    payload_few a.s.now a.out-1.now c.if-s-lt2.true c.copy.ensures
+    payload_few a.s.now a.out.now c.if-s-lt2.true c.copy.ensures
 
 pub copy-requires-2 : goal.copy-requires-2
 copy-requires-2 c = record { n_in_bounds = omega arith; n_in_bounds_2 = omega (arith, c.requires, payload-length c.args.s.now c.if-s-lt2.false) }
 
 pub put_rest-requires : goal.put_rest-requires
-put_rest-requires c = record { le_p = (omega arith, omega arith); s_in_bounds = omega (arith, c.requires, payload-length c.args.s.now (omega arith), c.copy-2.auto.1.1.1.0) }
+put_rest-requires c = record { le_p = (omega arith, omega arith); s_in_bounds = omega (arith, c.requires, payload-length c.args.s.now (omega arith), c.copy-2.auto.out) }
 
 pub returns : goal.returns
 returns c =

@@ -1,12 +1,12 @@
 -- `nal_unit::unescape::put_rest` meets its contract: what the bytes up to q hold of the payload is written. Assumes nothing.
-use Rattle.std.proofs.Common.{◌+◌, ◌-◌, arith, length}
+use Rattle.std.proofs.Common.{◌+◌, arith, length}
 use Rattle.nal_unit.specs.UnescapeCode.{unescaping_start, unescaping_room, unescaping_turn, unescaping_end}
 use Rattle.nal_unit.proofs.unescape.put_rest.Goals as goal
 
 pub loop-q-init : goal.loop-q-init
 loop-q-init c =
     let a = c.args in
-    unescaping_start a.s.now a.p (length a.s.now) a.out-1.now a.a (omega arith) (omega arith) (omega arith) c.requires.s_in_bounds
+    unescaping_start a.s.now a.p (length a.s.now) a.out.now a.a (omega arith) (omega arith) (omega arith) c.requires.s_in_bounds
 
 pub put64-b-requires : goal.put64-b-requires
 put64-b-requires c =

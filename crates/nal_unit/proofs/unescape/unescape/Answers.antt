@@ -24,15 +24,15 @@ none2 c =
     fault-place s ∙ le-ltb (first_fault s) (length s) (omega (arith, c.first_fault.ensures))
 
 -- there is room
-room1 : (c : goal.After-put_payload-arg-1) → let a = c.args in length (un a.ebsp.now) ≤ length a.out-1.now
+room1 : (c : goal.After-put_payload-arg-1) → let a = c.args in length (un a.ebsp.now) ≤ length a.out.now
 room1 c =
     let a = c.args in
-    leb-true (length (un a.ebsp.now)) (length a.out-1.now) (sym c.has_room.ensures ∙ not-false _ c.if-not-has_room.false-raw)
+    leb-true (length (un a.ebsp.now)) (length a.out.now) (sym c.has_room.ensures ∙ not-false _ c.if-not-has_room.false-raw)
 
-room2 : (c : goal.After-slice_known-2-1) → let a = c.args in length (un a.ebsp.now) ≤ length a.out-1.now
+room2 : (c : goal.After-slice_known-2-1) → let a = c.args in length (un a.ebsp.now) ≤ length a.out.now
 room2 c =
     let a = c.args in
-    leb-true (length (un a.ebsp.now)) (length a.out-1.now) (sym c.has_room.ensures ∙ not-false _ c.if-not-has_room.false-raw)
+    leb-true (length (un a.ebsp.now)) (length a.out.now) (sym c.has_room.ensures ∙ not-false _ c.if-not-has_room.false-raw)
 
 pub returns-then-not-has_room : goal.returns-then-not-has_room
 returns-then-not-has_room c =
