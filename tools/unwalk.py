@@ -149,6 +149,17 @@ PLACE = re.compile(r"tie\.(?!Need-)" + WORD + r"(?: (?:invariant|decreases)-" + 
 TRIVIAL = re.compile(r"^[\s(),]*(?:(?:search rules|omega arith|tt|refl)[\s(),]*)+$")
 
 
+def own_fields():
+    """The names with a dash that the repository's own records have for their fields."""
+    out = set()
+    for path in glob.glob("crates/*/specs/**/*.antt", recursive=True):
+        out |= set(re.findall(r"^  (?:pub )?(" + WORD + r"-" + WORD + r") :", read(path), re.M))
+    return out
+
+
+FIELDS = own_fields()
+
+
 class Turn:
     def __init__(self, of, crate, function, sigs, common):
         self.of, self.crate, self.function, self.sigs, self.common = of, crate, function, sigs, common
@@ -199,7 +210,7 @@ class Turn:
         i = 1
         while i < len(segs):
             s = segs[i]
-            n = norm(s)
+            n = norm(s.removesuffix("_lem"))
             if s == "before":
                 i += 1
                 continue
@@ -237,7 +248,7 @@ class Turn:
                 continue
             elif s == "pre":
                 out.append("requires")
-            elif "-" in s:
+            elif "-" in s and s not in FIELDS:
                 out.append(s.replace("-", "_"))
             else:
                 out.append(s)
@@ -335,8 +346,15 @@ class Turn:
                 t = re.sub(r"(?<![\w.'-])" + re.escape(h) + r" (\w[\w'₀-₉]*(?:\.before)*)(?![\w'.-])", r"\1", t)
             return t
 
-        if same:
+        for _ in range(4 if same else 0):
             items = [[*i[:3], open_same(i[3]), i[4], open_same(i[5])] for i in items]
+        # an answer that the check finds alone, cited in another one
+        alone = {i[2]: i[5].split("=", 1)[1].strip() for i in items if i[0] == "goal" and TRIVIAL.match(i[5].split("=", 1)[1]) and not i[4]}
+
+        def written(t):
+            return re.sub(r"\((" + WORD + r") [\w'₀-₉.]+\)", lambda m: f"({alone[m.group(1)]})" if m.group(1) in alone else m.group(0), t)
+
+        items = [[*i[:5], written(i[5])] for i in items]
         # the places at which each helper is cited
         helpers = {i[2] for i in items if i[0] == "helper"}
         cites = lambda t: {w for w in re.findall(r"(?<![.\w'-])" + WORD, t) if w in helpers}

@@ -2,6 +2,7 @@
 // A payload is written into 32 bytes of zeros, a few fields a function. What a put answers is the place behind it, and is named after the field
 // that stands there. The Option of the Rust's cropping becomes a flag beside four numbers.
 #![tactic(auto)]
+
 ghost use Rattle.std.specs.Prelude.{◌≡◌, true, ◌+◌, ◌-◌, ◌*◌, ◌≤◌, eqb, length, get_or};
 ghost use Rattle.lists.specs.Every.{Below};
 ghost use Rattle.lists.specs.Test.{same};

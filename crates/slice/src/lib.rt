@@ -1,6 +1,7 @@
 // The picture's slice (lib.rs: SliceHeader, MacroblockType, macroblock; ITU-T H.264 7.3.3 to 7.3.5): its payload from the lent planes, counted
 // and written macroblock by macroblock, with no payload kept.
 #![tactic(auto)]
+
 pub mod count;
 pub mod macroblock;
 pub mod write;

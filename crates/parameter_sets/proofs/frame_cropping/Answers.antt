@@ -15,10 +15,10 @@ known2 : (s : goal.After-mbs_height) → Fine (sequence_of s.args.s)
 known2 s = fine s.args.s s.requires
 
 pub overflow_cast-right_samples : goal.overflow_cast-right_samples
-overflow_cast-right_samples c = omega (arith, (known1 c).across_high, c.mbs_width.ensures)
+overflow_cast-right_samples c = omega (arith, (known1 c).across-high, c.mbs_width.ensures)
 
 pub overflow_mul-right_samples : goal.overflow_mul-right_samples
-overflow_mul-right_samples c = omega (arith, (known1 c).across_high, c.mbs_width.ensures)
+overflow_mul-right_samples c = omega (arith, (known1 c).across-high, c.mbs_width.ensures)
 
 pub overflow_sub-right_samples : goal.overflow_sub-right_samples
 overflow_sub-right_samples c = omega (arith, cover-x (sequence_of c.args.s), c.mbs_width.ensures)

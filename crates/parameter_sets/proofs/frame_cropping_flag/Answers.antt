@@ -14,7 +14,7 @@ known2 : (s : goal.After-mbs_height) → Fine (sequence_of s.args.s)
 known2 s = fine s.args.s s.requires
 
 pub overflow_mul-mbs_width : goal.overflow_mul-mbs_width
-overflow_mul-mbs_width c = omega (arith, (known1 c).across_high, c.mbs_width.ensures)
+overflow_mul-mbs_width c = omega (arith, (known1 c).across-high, c.mbs_width.ensures)
 
 -- the padded width as the code has it
 across1 : (c : goal.Then-mbs_width-s) → 16 * c.mbs_width.result ≡ 16 * pic_width_in_mbs (sequence_of c.args.s)

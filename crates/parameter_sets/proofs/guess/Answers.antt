@@ -19,6 +19,6 @@ part e f g = rw (e, f, g) refl
 pub returns : goal.returns
 unfolding guessed
 returns c = (
-      c.visible.ensures ∙ part c.sizes_in-sizes.ensures.across (c.crop_unit_x.ensures ∙ ap (λ (q : Sequence). crop_unit_x q.form) c.form_in-form.ensures) c.cropping_in-crop.ensures.right,
-      c.visible-2.ensures ∙ part c.sizes_in-sizes.ensures.down (c.crop_unit_y.ensures ∙ ap (λ (q : Sequence). crop_unit_y q.form) c.form_in-form.ensures) c.cropping_in-crop.ensures.bottom,
-    )
+  c.visible.ensures ∙ part c.sizes_in-sizes.ensures.across (c.crop_unit_x.ensures ∙ ap (λ (q : Sequence). crop_unit_x q.form) c.form_in-form.ensures) c.cropping_in-crop.ensures.right,
+  c.visible-2.ensures ∙ part c.sizes_in-sizes.ensures.down (c.crop_unit_y.ensures ∙ ap (λ (q : Sequence). crop_unit_y q.form) c.form_in-form.ensures) c.cropping_in-crop.ensures.bottom,
+)

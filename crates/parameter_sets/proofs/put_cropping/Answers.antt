@@ -128,19 +128,19 @@ pub put_bits-left-requires : goal.put_bits-left-requires
 unfolding low_bits
 put_bits-left-requires c = (omega arith, put_room 1 (all1 c) (omega arith))
 
-flag1 : (c : goal.After-put_ue-arg-1) → Fields4 (S c) c.put_bits-left.new.s c.put_bits-left.result (ue 0 ++ (ue (crop_right (Q4 (S c))) ++ (ue 0 ++ ue (crop_bottom (Q4 (S c))))))
+flag1 : (c : goal.After-put_ue-arg-1) → Fields4 c c.put_bits-left.new.s c.put_bits-left.result (ue 0 ++ (ue (crop_right (Q4 c)) ++ (ue 0 ++ ue (crop_bottom (Q4 c)))))
 flag1 c = put_next (u 1 1) _ (all2 c) c.put_bits-left.ensures
 
-flag2 : (c : goal.After-put_ue-arg-2-1) → Fields5 (S c) c.put_bits-left.new.s c.put_bits-left.result (ue 0 ++ (ue (crop_right (Q5 (S c))) ++ (ue 0 ++ ue (crop_bottom (Q5 (S c))))))
+flag2 : (c : goal.After-put_ue-arg-2-1) → Fields5 c c.put_bits-left.new.s c.put_bits-left.result (ue 0 ++ (ue (crop_right (Q5 c)) ++ (ue 0 ++ ue (crop_bottom (Q5 c)))))
 flag2 c = put_next (u 1 1) _ (all3 c) c.put_bits-left.ensures
 
-flag3 : (c : goal.After-put_ue-arg-3-1) → Fields6 (S c) c.put_bits-left.new.s c.put_bits-left.result (ue 0 ++ (ue (crop_right (Q6 (S c))) ++ (ue 0 ++ ue (crop_bottom (Q6 (S c))))))
+flag3 : (c : goal.After-put_ue-arg-3-1) → Fields6 c c.put_bits-left.new.s c.put_bits-left.result (ue 0 ++ (ue (crop_right (Q6 c)) ++ (ue 0 ++ ue (crop_bottom (Q6 c)))))
 flag3 c = put_next (u 1 1) _ (all4 c) c.put_bits-left.ensures
 
-flag4 : (c : goal.After-put_ue-arg-4-1) → Fields7 (S c) c.put_bits-left.new.s c.put_bits-left.result (ue 0 ++ (ue (crop_right (Q7 (S c))) ++ (ue 0 ++ ue (crop_bottom (Q7 (S c))))))
+flag4 : (c : goal.After-put_ue-arg-4-1) → Fields7 c c.put_bits-left.new.s c.put_bits-left.result (ue 0 ++ (ue (crop_right (Q7 c)) ++ (ue 0 ++ ue (crop_bottom (Q7 c)))))
 flag4 c = put_next (u 1 1) _ (all5 c) c.put_bits-left.ensures
 
-flag5 : (c : goal.After-put_ue) → Fields8 (S c) c.put_bits-left.new.s c.put_bits-left.result (ue 0 ++ (ue (crop_right (Q8 (S c))) ++ (ue 0 ++ ue (crop_bottom (Q8 (S c))))))
+flag5 : (c : goal.After-put_ue) → Fields8 c c.put_bits-left.new.s c.put_bits-left.result (ue 0 ++ (ue (crop_right (Q8 c)) ++ (ue 0 ++ ue (crop_bottom (Q8 c)))))
 flag5 c = put_next (u 1 1) _ (all6 c) c.put_bits-left.ensures
 
 left1 : (c : goal.After-put_ue-arg-1) → ue c.frame_cropping-crop.result.left ≡ ue 0
@@ -161,42 +161,42 @@ left5 c = ap ue c.frame_cropping-crop.ensures.left
 pub put_ue-right-requires : goal.put_ue-right-requires
 put_ue-right-requires c = (omega (arith, c.frame_cropping-crop.ensures.left), put_fits _ _ (left1 c) (flag1 c))
 
-one1 : (c : goal.After-put_ue-arg-2-1) → Fields5 (S c) c.put_ue-right.new.buffer c.put_ue-right.result (ue (crop_right (Q5 (S c))) ++ (ue 0 ++ ue (crop_bottom (Q5 (S c)))))
+one1 : (c : goal.After-put_ue-arg-2-1) → Fields5 c c.put_ue-right.new.buffer c.put_ue-right.result (ue (crop_right (Q5 c)) ++ (ue 0 ++ ue (crop_bottom (Q5 c))))
 one1 c = put_next (ue 0) _ (flag2 c) (put_as (left2 c) c.put_ue-right.ensures)
 
-one2 : (c : goal.After-put_ue-arg-3-1) → Fields6 (S c) c.put_ue-right.new.buffer c.put_ue-right.result (ue (crop_right (Q6 (S c))) ++ (ue 0 ++ ue (crop_bottom (Q6 (S c)))))
+one2 : (c : goal.After-put_ue-arg-3-1) → Fields6 c c.put_ue-right.new.buffer c.put_ue-right.result (ue (crop_right (Q6 c)) ++ (ue 0 ++ ue (crop_bottom (Q6 c))))
 one2 c = put_next (ue 0) _ (flag3 c) (put_as (left3 c) c.put_ue-right.ensures)
 
-one3 : (c : goal.After-put_ue-arg-4-1) → Fields7 (S c) c.put_ue-right.new.buffer c.put_ue-right.result (ue (crop_right (Q7 (S c))) ++ (ue 0 ++ ue (crop_bottom (Q7 (S c)))))
+one3 : (c : goal.After-put_ue-arg-4-1) → Fields7 c c.put_ue-right.new.buffer c.put_ue-right.result (ue (crop_right (Q7 c)) ++ (ue 0 ++ ue (crop_bottom (Q7 c))))
 one3 c = put_next (ue 0) _ (flag4 c) (put_as (left4 c) c.put_ue-right.ensures)
 
-one4 : (c : goal.After-put_ue) → Fields8 (S c) c.put_ue-right.new.buffer c.put_ue-right.result (ue (crop_right (Q8 (S c))) ++ (ue 0 ++ ue (crop_bottom (Q8 (S c)))))
+one4 : (c : goal.After-put_ue) → Fields8 c c.put_ue-right.new.buffer c.put_ue-right.result (ue (crop_right (Q8 c)) ++ (ue 0 ++ ue (crop_bottom (Q8 c))))
 one4 c = put_next (ue 0) _ (flag5 c) (put_as (left5 c) c.put_ue-right.ensures)
 
-right1 : (c : goal.After-put_ue-arg-2-1) → ue c.frame_cropping-crop.result.right ≡ ue (crop_right (Q5 (S c)))
+right1 : (c : goal.After-put_ue-arg-2-1) → ue c.frame_cropping-crop.result.right ≡ ue (crop_right (Q5 c))
 right1 c = ap ue c.frame_cropping-crop.ensures.right
 
-right2 : (c : goal.After-put_ue-arg-3-1) → ue c.frame_cropping-crop.result.right ≡ ue (crop_right (Q6 (S c)))
+right2 : (c : goal.After-put_ue-arg-3-1) → ue c.frame_cropping-crop.result.right ≡ ue (crop_right (Q6 c))
 right2 c = ap ue c.frame_cropping-crop.ensures.right
 
-right3 : (c : goal.After-put_ue-arg-4-1) → ue c.frame_cropping-crop.result.right ≡ ue (crop_right (Q7 (S c)))
+right3 : (c : goal.After-put_ue-arg-4-1) → ue c.frame_cropping-crop.result.right ≡ ue (crop_right (Q7 c))
 right3 c = ap ue c.frame_cropping-crop.ensures.right
 
-right4 : (c : goal.After-put_ue) → ue c.frame_cropping-crop.result.right ≡ ue (crop_right (Q8 (S c)))
+right4 : (c : goal.After-put_ue) → ue c.frame_cropping-crop.result.right ≡ ue (crop_right (Q8 c))
 right4 c = ap ue c.frame_cropping-crop.ensures.right
 
 pub put_ue-top-requires : goal.put_ue-top-requires
 put_ue-top-requires c =
-    (omega (arith, right_most (Q5 (S c)) (known1 (S c)), c.frame_cropping-crop.ensures.right), put_fits _ _ (right1 c) (one1 c))
+    (omega (arith, right_most (Q5 c) (known1 c), c.frame_cropping-crop.ensures.right), put_fits _ _ (right1 c) (one1 c))
 
-two1 : (c : goal.After-put_ue-arg-3-1) → Fields6 (S c) c.put_ue-top.new.buffer c.put_ue-top.result (ue 0 ++ ue (crop_bottom (Q6 (S c))))
-two1 c = put_next (ue (crop_right (Q6 (S c)))) _ (one2 c) (put_as (right2 c) c.put_ue-top.ensures)
+two1 : (c : goal.After-put_ue-arg-3-1) → Fields6 c c.put_ue-top.new.buffer c.put_ue-top.result (ue 0 ++ ue (crop_bottom (Q6 c)))
+two1 c = put_next (ue (crop_right (Q6 c))) _ (one2 c) (put_as (right2 c) c.put_ue-top.ensures)
 
-two2 : (c : goal.After-put_ue-arg-4-1) → Fields7 (S c) c.put_ue-top.new.buffer c.put_ue-top.result (ue 0 ++ ue (crop_bottom (Q7 (S c))))
-two2 c = put_next (ue (crop_right (Q7 (S c)))) _ (one3 c) (put_as (right3 c) c.put_ue-top.ensures)
+two2 : (c : goal.After-put_ue-arg-4-1) → Fields7 c c.put_ue-top.new.buffer c.put_ue-top.result (ue 0 ++ ue (crop_bottom (Q7 c)))
+two2 c = put_next (ue (crop_right (Q7 c))) _ (one3 c) (put_as (right3 c) c.put_ue-top.ensures)
 
-two3 : (c : goal.After-put_ue) → Fields8 (S c) c.put_ue-top.new.buffer c.put_ue-top.result (ue 0 ++ ue (crop_bottom (Q8 (S c))))
-two3 c = put_next (ue (crop_right (Q8 (S c)))) _ (one4 c) (put_as (right4 c) c.put_ue-top.ensures)
+two3 : (c : goal.After-put_ue) → Fields8 c c.put_ue-top.new.buffer c.put_ue-top.result (ue 0 ++ ue (crop_bottom (Q8 c)))
+two3 c = put_next (ue (crop_right (Q8 c))) _ (one4 c) (put_as (right4 c) c.put_ue-top.ensures)
 
 top1 : (c : goal.After-put_ue-arg-3-1) → ue c.frame_cropping-crop.result.top ≡ ue 0
 top1 c = ap ue c.frame_cropping-crop.ensures.top
@@ -211,21 +211,21 @@ pub put_ue-bottom-requires : goal.put_ue-bottom-requires
 put_ue-bottom-requires c =
     (omega (arith, c.frame_cropping-crop.ensures.top), put_fits _ _ (top1 c) (two1 c))
 
-three1 : (c : goal.After-put_ue-arg-4-1) → Fields7 (S c) c.put_ue-bottom.new.buffer c.put_ue-bottom.result (ue (crop_bottom (Q7 (S c))))
+three1 : (c : goal.After-put_ue-arg-4-1) → Fields7 c c.put_ue-bottom.new.buffer c.put_ue-bottom.result (ue (crop_bottom (Q7 c)))
 three1 c = put_next (ue 0) _ (two2 c) (put_as (top2 c) c.put_ue-bottom.ensures)
 
-three2 : (c : goal.After-put_ue) → Fields8 (S c) c.put_ue-bottom.new.buffer c.put_ue-bottom.result (ue (crop_bottom (Q8 (S c))))
+three2 : (c : goal.After-put_ue) → Fields8 c c.put_ue-bottom.new.buffer c.put_ue-bottom.result (ue (crop_bottom (Q8 c)))
 three2 c = put_next (ue 0) _ (two3 c) (put_as (top3 c) c.put_ue-bottom.ensures)
 
-bottom1 : (c : goal.After-put_ue-arg-4-1) → ue c.frame_cropping-crop.result.bottom ≡ ue (crop_bottom (Q7 (S c)))
+bottom1 : (c : goal.After-put_ue-arg-4-1) → ue c.frame_cropping-crop.result.bottom ≡ ue (crop_bottom (Q7 c))
 bottom1 c = ap ue c.frame_cropping-crop.ensures.bottom
 
-bottom2 : (c : goal.After-put_ue) → ue c.frame_cropping-crop.result.bottom ≡ ue (crop_bottom (Q8 (S c)))
+bottom2 : (c : goal.After-put_ue) → ue c.frame_cropping-crop.result.bottom ≡ ue (crop_bottom (Q8 c))
 bottom2 c = ap ue c.frame_cropping-crop.ensures.bottom
 
 pub put_ue-requires : goal.put_ue-requires
 put_ue-requires c =
-    (omega (arith, bottom_most (Q7 (S c)) (known2 (S c)), c.frame_cropping-crop.ensures.bottom), put_room _ (three1 c) (omega (arith, ap length (bottom1 c))))
+    (omega (arith, bottom_most (Q7 c) (known2 c), c.frame_cropping-crop.ensures.bottom), put_room _ (three1 c) (omega (arith, ap length (bottom1 c))))
 
 pub returns : goal.returns
 returns c = put_last (three2 c) (put_as (bottom2 c) c.put_ue.ensures)

@@ -43,10 +43,10 @@ known4 : (s : goal.After-put_ue-arg-2-1) → Fine (Q5 s)
 known4 s = fine s.args.s s.requires.0
 
 pub overflow_sub-pic_width_in_mbs_minus1 : goal.overflow_sub-pic_width_in_mbs_minus1
-overflow_sub-pic_width_in_mbs_minus1 c = omega (arith, (known1 c).across_low, c.mbs_width.ensures)
+overflow_sub-pic_width_in_mbs_minus1 c = omega (arith, (known1 c).across-low, c.mbs_width.ensures)
 
 pub overflow_cast-pic_width_in_mbs_minus1 : goal.overflow_cast-pic_width_in_mbs_minus1
-overflow_cast-pic_width_in_mbs_minus1 c = omega (arith, (known1 c).across_high, c.mbs_width.ensures)
+overflow_cast-pic_width_in_mbs_minus1 c = omega (arith, (known1 c).across-high, c.mbs_width.ensures)
 
 pub overflow_sub-pic_height_in_map_units_minus1 : goal.overflow_sub-pic_height_in_map_units_minus1
 overflow_sub-pic_height_in_map_units_minus1 c = omega (arith, (known2 c).down_low, c.mbs_height.ensures)
@@ -125,7 +125,7 @@ fixed4 c = put_next (u 5 30) _ (all5 c) c.put_bits-width.ensures
 
 pub put_ue-height-requires : goal.put_ue-height-requires
 put_ue-height-requires c =
-    (omega (arith, (known3 c).across_high, c.mbs_width.ensures), put_fits _ _ (wide1 c) (fixed1 c))
+    (omega (arith, (known3 c).across-high, c.mbs_width.ensures), put_fits _ _ (wide1 c) (fixed1 c))
 
 one1 : (c : goal.After-put_ue-arg-2-1) → Fields3 c c.put_ue-height.new.buffer c.put_ue-height.result (ue (frame_height_in_mbs (Q5 c) - 1) ++ u 2 2)
 one1 c = put_next (ue (pic_width_in_mbs (Q5 c) - 1)) _ (fixed2 c) (put_as (wide2 c) c.put_ue-height.ensures)

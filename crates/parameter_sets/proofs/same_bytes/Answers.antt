@@ -9,13 +9,13 @@ returns-then-a-b c = sym (same_lengths c.args.a.now c.args.b.now (λ e. omega (a
 pub returns-then-a-i : goal.returns-then-a-i
 returns-then-a-i c =
     let l = c.loop-i in
-    let e = same_step c.args.a.now c.args.b.now l.i (shared-slice-read-if2 c) (shared-slice-read-if2-2 c) in
+    let e = same_step c.args.a.now c.args.b.now l.i (search rules) (search rules) in
     sym (sym l.invariant.1 ∙ e ∙ rw (ne_eqb _ _ c.if-a-i.true) refl)
 
 pub loop-i-preserved : goal.loop-i-preserved
 loop-i-preserved c =
     let l = c.loop-i in
-    let e = same_step c.args.a.now c.args.b.now l.i (shared-slice-read-if2 c) (shared-slice-read-if2-2 c) in
+    let e = same_step c.args.a.now c.args.b.now l.i (search rules) (search rules) in
     (search rules, sym (e ∙ rw (eq-eqb _ _ c.if-a-i.false) refl) ∙ l.invariant.1)
 
 pub returns : goal.returns

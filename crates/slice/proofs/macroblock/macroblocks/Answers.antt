@@ -8,7 +8,7 @@ pub loop-k-init : goal.loop-k-init
 loop-k-init c = laying_start _ _ _ _ _ c.requires.n_in_bounds
 
 pub overflow_add-mx : goal.overflow_add-mx
-overflow_add-mx c = omega (arith, c.requires.my_bound.1, c.requires.ready.fine.across_high, c.loop-k-test.true)
+overflow_add-mx c = omega (arith, c.requires.my_bound.1, c.requires.ready.fine.across-high, c.loop-k-test.true)
 
 pub macroblock-a-requires : goal.macroblock-a-requires
 macroblock-a-requires c =

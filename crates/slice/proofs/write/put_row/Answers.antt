@@ -19,7 +19,7 @@ put_some-a-requires c =
     let l : c.loop-mx.mx + c.at_once-n.result ≤ pic_width_in_mbs (sequence_of c.args.s) = omega (arith, c.loop-mx-test.true, g.within, c.mbs_width-mw.ensures) in record { ready = c.requires.ready; my_bound = (c.requires.my_bound, l); n_bound = omega (arith, n); le_at = omega (arith, g.far, c.requires.le_at); n_in_bounds = some_room _ g l }
 
 pub overflow_add-mx : goal.overflow_add-mx
-overflow_add-mx c = omega (arith, c.loop-mx-test.true, c.loop-mx.invariant.within, c.mbs_width-mw.ensures, c.requires.ready.fine.across_high)
+overflow_add-mx c = omega (arith, c.loop-mx-test.true, c.loop-mx.invariant.within, c.mbs_width-mw.ensures, c.requires.ready.fine.across-high)
 
 pub loop-mx-smaller : goal.loop-mx-smaller
 loop-mx-smaller c = omega (arith, c.loop-mx-test.true, c.at_once-n.ensures, (once c.args.s).some)
@@ -27,7 +27,7 @@ loop-mx-smaller c = omega (arith, c.loop-mx-test.true, c.at_once-n.ensures, (onc
 pub loop-mx-preserved : goal.loop-mx-preserved
 loop-mx-preserved c =
     let g = c.loop-mx.invariant in
-    some_turn _ g (omega (arith, c.loop-mx-test.true, g.within, c.mbs_width-mw.ensures)) c.put_some_lem.ensures
+    some_turn _ g (omega (arith, c.loop-mx-test.true, g.within, c.mbs_width-mw.ensures)) c.put_some-a.ensures
 
 pub overflow_sub-mw-2 : goal.overflow_sub-mw-2
 overflow_sub-mw-2 c = omega (arith, c.loop-mx.invariant.within, c.mbs_width-mw.ensures)
