@@ -4,7 +4,7 @@
 --     sps_bits level q         the bits, one line a field
 --     sps_payload level q      the payload's bytes
 -- Assumes nothing.
-use Rattle.std.specs.Prelude.{List, [], ◌++◌, Bool, cond, not, ◌&&◌, ℕ, ◌+◌, ◌-◌, ◌*◌, ◌/◌, eqb}
+use Rattle.std.specs.Prelude.{List, [], ◌++◌, Bool, cond, not, ◌&&◌, ℕ, ◌-◌, ◌*◌, ◌/◌, eqb}
 use Rattle.bits.specs.Bits.{low_bits}
 use Rattle.bits.specs.Pack.{packed}
 use Rattle.golomb.specs.Code.{ue}

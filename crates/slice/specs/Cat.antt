@@ -70,7 +70,7 @@ pub cat-length : {f : ℕ → List ℕ} {m i n : ℕ} → Even f m i n → lengt
 unfolding cat
 cat-length {f} {m} {i} {n = zero} e = sym (zero-mul m)
 cat-length {f} {m} {i} {n = suc n} e =
-    rw (length-append (f i) (cat f (i + 1) n), even_first e, cat-length {n = n} (even_later e)) (omega (arith, suc-mul n m))
+    rw (length-append (f i) (cat f (i + 1) n), even_first e, cat-length {f = f} {m = m} {i = i + 1} {n = n} (even_later e)) (omega (arith, suc-mul n m))
 
 -- the first k of them
 even_take : {f : ℕ → List ℕ} {m i n : ℕ} (k : ℕ) → k ≤ n → Even f m i n → Even f m i k

@@ -1,5 +1,5 @@
 -- `parameter_sets::put_chroma` meets its contract, field by field. Assumes nothing.
-use Rattle.std.proofs.Common.{◌≡◌, sym, ap, ◌∙◌, List, ◌++◌, ℕ, ◌+◌, ◌-◌, ◌≤◌, arith}
+use Rattle.std.proofs.Common.{◌≡◌, sym, ap, ◌∙◌, List, ◌++◌, ℕ, ◌-◌, ◌≤◌, arith}
 use Rattle.bits.specs.Bits.{low_bits, put_none}
 use Rattle.golomb.specs.Code.{ue}
 use Rattle.ycbcr_image.specs.Form.{Form}

@@ -1,5 +1,5 @@
 -- `parameter_sets::put_cropping` meets its contract, field by field. Assumes nothing.
-use Rattle.std.proofs.Common.{◌≡◌, refl, sym, ap, ◌∙◌, List, ◌++◌, true, false, ℕ, ◌+◌, arith, length}
+use Rattle.std.proofs.Common.{◌≡◌, refl, sym, ap, ◌∙◌, List, ◌++◌, true, false, ℕ, arith, length}
 use borrow.Author.Tests.{not-true, not-false}
 use Rattle.bits.specs.Bits.{low_bits}
 use Rattle.golomb.specs.Code.{ue}

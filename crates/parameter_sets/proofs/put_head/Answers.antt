@@ -1,5 +1,5 @@
 -- `parameter_sets::put_head` meets its contract, field by field. Assumes nothing.
-use Rattle.std.proofs.Common.{refl, ap, List, ◌++◌, ℕ, ◌+◌, arith, length}
+use Rattle.std.proofs.Common.{refl, ap, List, ◌++◌, ℕ, arith, length}
 use Rattle.bits.specs.Bits.{low_bits}
 use Rattle.golomb.specs.Code.{digits_in, num_bits, ue}
 use Rattle.ycbcr_image.specs.Sizes.{sequence_of}

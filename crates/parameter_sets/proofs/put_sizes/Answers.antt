@@ -1,5 +1,5 @@
 -- `parameter_sets::put_sizes` meets its contract, field by field. Assumes nothing.
-use Rattle.std.proofs.Common.{◌≡◌, ap, List, ◌++◌, ℕ, ◌+◌, ◌-◌, arith}
+use Rattle.std.proofs.Common.{◌≡◌, ap, List, ◌++◌, ℕ, ◌-◌, arith}
 use Rattle.bits.specs.Bits.{low_bits}
 use Rattle.golomb.specs.Code.{ue}
 use Rattle.ycbcr_image.specs.Sizes.{Sequence, sequence_of, pic_width_in_mbs, frame_height_in_mbs}

@@ -1,5 +1,5 @@
 -- `parameter_sets::same_bytes` meets its contract: what stands from i on is the same exactly if the whole is. Assumes nothing.
-use Rattle.std.proofs.Common.{refl, sym, ◌∙◌, ◌-◌, arith, rules, eq-eqb, ne_eqb}
+use Rattle.std.proofs.Common.{refl, sym, ◌∙◌, arith, rules, eq-eqb, ne_eqb}
 use Rattle.parameter_sets.specs.Lists.{same_lengths, same_step, same_end}
 use Rattle.parameter_sets.proofs.same_bytes.Goals as goal
 

@@ -1,5 +1,5 @@
 -- `parameter_sets::sps` meets its contract: the pieces are written one behind the other into zeros. Assumes nothing.
-use Rattle.std.proofs.Common.{refl, List, ◌++◌, ℕ, ◌+◌, ◌≤◌, arith, length, replicate, length-append}
+use Rattle.std.proofs.Common.{refl, List, ◌++◌, ℕ, ◌≤◌, arith, length, replicate, length-append}
 use Rattle.bits.specs.Bits.{BitsPut}
 use Rattle.ycbcr_image.specs.Sizes.{Sequence, sequence_of}
 use Rattle.parameter_sets.specs.Sps.{chroma_fields, crop_fields, sps_bits, sps_payload}

@@ -1,5 +1,5 @@
 -- `slice::count::count_row` meets its contract. The loop's invariant: what is counted and what is still to come. Assumes nothing.
-use Rattle.std.proofs.Common.{◌-◌, arith}
+use Rattle.std.proofs.Common.{arith}
 use Rattle.slice.specs.Macroblocks.{row_few}
 use Rattle.slice.specs.Pieces.{row_is, tally_start, tally_turn, tally_most, tally_end}
 use Rattle.slice.proofs.count.count_row.Goals as goal

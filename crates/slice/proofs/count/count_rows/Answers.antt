@@ -1,5 +1,5 @@
 -- `slice::count::count_rows` meets its contract. The loop's invariant: what is counted and what is still to come. Assumes nothing.
-use Rattle.std.proofs.Common.{◌-◌, arith}
+use Rattle.std.proofs.Common.{arith}
 use Rattle.slice.specs.Macroblocks.{rows_most}
 use Rattle.slice.specs.Pieces.{tally_start, tally_front, tally_most, tally_end}
 use Rattle.slice.proofs.count.count_rows.Goals as goal

@@ -1,5 +1,5 @@
 -- `slice::macroblock::copy_rows` meets its contract. The loop's invariant: where the next row stands, and the rows that are laid. Assumes nothing.
-use Rattle.std.proofs.Common.{◌≡◌, refl, ◌+◌, ◌-◌, zero-add, zero-mul, mul-le-mul_right, arith}
+use Rattle.std.proofs.Common.{◌≡◌, refl, ◌+◌, zero-add, zero-mul, mul-le-mul_right, arith}
 use Rattle.lists.specs.Part.{part}
 use Rattle.slice.specs.Cat.{cat-length, rows_of, rows_at, rows_even}
 use Rattle.slice.specs.Laid.{laid_one, laying_start, laying_room, laying_turn, laying_end}

@@ -1,5 +1,5 @@
 -- `slice::macroblock::macroblocks` meets its contract. The loop's invariant: the macroblocks that are laid. Assumes nothing.
-use Rattle.std.proofs.Common.{◌-◌, ◌*◌, add_assoc, arith}
+use Rattle.std.proofs.Common.{◌*◌, add_assoc, arith}
 use Rattle.ycbcr_image.specs.Sizes.{sequence_of, pic_width_in_mbs}
 use Rattle.slice.specs.Laid.{laying_start, laying_room, laying_turn, laying_end}
 use Rattle.slice.proofs.macroblock.macroblocks.Goals as goal

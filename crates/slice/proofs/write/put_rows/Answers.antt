@@ -1,5 +1,5 @@
 -- `slice::write::put_rows` meets its contract. The loop's invariant: what is written and what is still to come. Assumes nothing.
-use Rattle.std.proofs.Common.{◌-◌, ◌<◌, arith, zero-add}
+use Rattle.std.proofs.Common.{◌<◌, arith, zero-add}
 use Rattle.ycbcr_image.specs.Sizes.{sequence_of, frame_height_in_mbs}
 use Rattle.slice.specs.Pieces.{pieces_start, pieces_room, pieces_front, pieces_end}
 use Rattle.slice.proofs.write.put_rows.Goals as goal
