@@ -211,7 +211,7 @@ class Turn:
         while i < len(segs):
             s = segs[i]
             n = norm(s.removesuffix("_lem"))
-            if s == "before":
+            if s == "before" and out[-1] != "args" and kind != "args":
                 i += 1
                 continue
             inside = out[-1] in ("args", "new", "auto", "ranges", "initial", "fn", "now") or kind == "args"
@@ -246,6 +246,13 @@ class Turn:
                 out += self.clause(names, segs[i:j], whole)
                 i = j
                 continue
+            elif s == "ensures" and i == len(segs) - 1 and len(self.named(here)) > 1:
+                whole_path = ".".join([*out, s])
+                parts = [f"{whole_path}.{n}" for n in self.named(here)]
+                text = parts[-1]
+                for part in reversed(parts[:-1]):
+                    text = f"({part}, {text})"
+                return text
             elif s == "pre":
                 out.append("requires")
             elif "-" in s and s not in FIELDS:
@@ -254,6 +261,11 @@ class Turn:
                 out.append(s)
             i += 1
         return ".".join(out)
+
+    def named(self, step):
+        """The names of the ensures clauses of a step's callee, where each has one."""
+        names = self.sigs[self.callee[step]][2] if step and self.callee.get(step) in self.sigs else []
+        return names if all(names) else []
 
     def text(self, text):
         text = self.paths(text)
@@ -289,6 +301,8 @@ class Turn:
         given, body = m.group(1).split(), m.group(2)
         names = {}
         want = [(v, c, True) for v, c in zip(variables, changed)] + [(v, c, False) for v, c in zip(variables, changed) if c]
+        if len(given) > len(want):
+            given = [g for g in given if not re.match(r"t\d+$", g)]
         if len(given) != len(want):
             self.looks.append(f"{name}: {len(given)} arguments for {len(want)} variables")
             return None
@@ -437,8 +451,8 @@ class Turn:
             parts = parts[:-1] + more
         if parts and len(parts) == len(names):
             return body[:start].rstrip(" ") + " record { " + "; ".join(f"{n} = {p}" for n, p in zip(names, parts)) + " }"
-        self.looks.append(f"{goal}: {len(names)} clauses, and its answer is no tuple of them")
-        return body
+        fields = ["r" + ".1" * k + (".0" if k < len(names) - 1 else "") for k in range(len(names))]
+        return body[:start].rstrip(" ") + " let r = " + body[start:].strip() + " in record { " + "; ".join(f"{n} = {p}" for n, p in zip(names, fields)) + " }"
 
     @staticmethod
     def final(body):

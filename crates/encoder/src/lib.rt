@@ -1,6 +1,7 @@
 // The writer (encoder.rs: LessEncoder). A start call writes the parameter sets and the first picture and leaves a session; a next call writes one more
 // picture. Both write one lent output from its first byte on. The Rust's LessEncoder is the session, which a call takes and answers by value.
 #![tactic(auto)]
+
 ghost use Rattle.std.specs.Prelude.{◌≡◌, true, ◌+◌, ◌≤◌, length};
 ghost use Rattle.ycbcr_image.specs.Sizes.{sequence_of};
 ghost use Rattle.ycbcr_image.specs.Refusals.{accepted};

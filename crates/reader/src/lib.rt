@@ -1,6 +1,7 @@
 // The reader (paper 01, "Reading a take"): a take's units told one by one, and a picture's visible samples written into lent planes. No payload is kept: it is
 // read by the places of the unit that holds it.
 #![tactic(auto)]
+
 pub mod heads;
 pub mod judge;
 pub mod samples;

@@ -1,0 +1,31 @@
+-- `encoder::put_picture` meets its contract: the unit is opened, and the payload written behind. Assumes nothing.
+use Rattle.std.proofs.Common.{arith, length}
+use Rattle.nal_unit.specs.UnitCode.{frame_room, frame-put}
+use Rattle.ycbcr_image.specs.Sizes.{sequence_of}
+use Rattle.slice.specs.Picture.{picture_of}
+use Rattle.slice.specs.Macroblocks.{lends}
+use Rattle.encoder.specs.Units.{picture_header}
+use Rattle.encoder.specs.Code.{picture_size, laid_picture, picture_room}
+use Rattle.encoder.proofs.put_picture.Goals as goal
+
+pub open_unit-a-requires : goal.open_unit-a-requires
+open_unit-a-requires c =
+    let q = sequence_of c.args.s in
+    let l = lends c.args.y.now c.args.cb.now c.args.cr.now c.args.strides in
+    let d = c.args.out.now in
+    omega (arith, c.requires.strides_in_bounds, picture_size q l)
+
+pub put_picture-requires : goal.put_picture-requires
+put_picture-requires c =
+    let q = sequence_of c.args.s in
+    let l = lends c.args.y.now c.args.cb.now c.args.cr.now c.args.strides in
+    let d = c.args.out.now in
+    let o = (c.open_unit-a.ensures.value, c.open_unit-a.ensures.out_after) in record { ready = c.requires.ready; le_at = omega (arith, o.0); strides_in_bounds = frame_room d c.args.at picture_header (picture_of q l) (omega arith) (picture_room q l c.args.at (length d) c.requires.strides_in_bounds) o.1 o.0 }
+
+pub returns : goal.returns
+returns c =
+    let q = sequence_of c.args.s in
+    let l = lends c.args.y.now c.args.cb.now c.args.cr.now c.args.strides in
+    let d = c.args.out.now in
+    let o = (c.open_unit-a.ensures.value, c.open_unit-a.ensures.out_after) in
+    laid_picture q l (frame-put d c.args.at picture_header (picture_of q l) (omega arith) (picture_room q l c.args.at (length d) c.requires.strides_in_bounds) o.1 o.0 c.put_picture.ensures)

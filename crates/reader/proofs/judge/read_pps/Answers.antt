@@ -1,0 +1,12 @@
+-- `reader::judge::read_pps` meets its contract. Assumes nothing.
+use Rattle.std.proofs.Common.{refl}
+use borrow.Author.Tests.{not-true, not-false}
+use Rattle.reader.specs.ReadCode.{judged_as, pps_not, pps_form}
+use Rattle.reader.proofs.judge.read_pps.Goals as goal
+
+pub returns-then-not-pps_at : goal.returns-then-not-pps_at
+returns-then-not-pps_at c = judged_as (pps_not _ _ _ c.pps_at.ensures (not-true _ c.if-not-pps_at.true-raw)) c.refused.ensures
+
+pub returns : goal.returns
+returns c =
+    judged_as (pps_form _ _ _ c.pps_at.ensures (not-false _ c.if-not-pps_at.false-raw)) record { answer = refl; place = refl; held = rw (← c.counted-c.ensures) refl }
