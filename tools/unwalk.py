@@ -278,15 +278,23 @@ class Turn:
             text = text[: m.start()] + rest
 
     def paths(self, text):
-        bound = {}
+        bound, clauses = {}, {}
         # what a `let` names, where it is a step
         for m in re.finditer(r"let (" + WORD + r") = (" + WORD + r"(?:\.[^\s.(){},;\[\]]+)+) in", text):
             last = m.group(2).split(".")[-1]
             if norm(last) in self.steps:
                 bound[m.group(1)] = self.steps[norm(last)]
+            elif last == "ensures" and len(self.named(self.steps.get(norm(m.group(2).split(".")[-2])))) > 1:
+                clauses[m.group(1)] = self.named(self.steps[norm(m.group(2).split(".")[-2])])
             elif last in ("args", "requires", "pre"):
                 bound[m.group(1)] = "requires" if last == "pre" else last
-        return re.sub(r"(?:(?<![\w.'-])[A-Za-z_][^\s(){}.;,@\"«»\[\]\\]*|(?<=\)))(?:\.[^\s(){}.;,@\"«»\[\]\\]+)+", lambda m: self.path(m, bound), text)
+        for name, names in clauses.items():
+            text = re.sub(r"(let " + re.escape(name) + r" = [^\s]+)\.ensures in", r"\1.ensures_whole in", text)
+            for k, n in enumerate(names):
+                old = name + ".1" * k + (".0" if k < len(names) - 1 else "")
+                text = re.sub(r"(?<![\w.'-])" + re.escape(old) + r"(?![\w])", f"{name}.{n}", text)
+        text = re.sub(r"(?:(?<![\w.'-])[A-Za-z_][^\s(){}.;,@\"«»\[\]\\]*|(?<=\)))(?:\.[^\s(){}.;,@\"«»\[\]\\]+)+", lambda m: self.path(m, bound), text)
+        return text.replace(".ensures_whole in", ".ensures in")
 
     def invariant(self, name, sig, unf, eq):
         """`invariant-loop` or `decreases-loop`, as a function of the live variables."""

@@ -19,7 +19,7 @@ use Rattle.std.proofs.Math.Dec.{eqb}
 use Rattle.lists.specs.Test.{same, by_test, by_tests}
 use Rattle.nal_unit.specs.Unescape.{un, fault}
 use Rattle.nal_unit.specs.Walk.{Met, end, stray, unit, meet}
-use Rattle.nal_unit.specs.Calls.{Verdict, said, at, Turn, turned, turn}
+use Rattle.nal_unit.specs.Calls.{Verdict, said, at, turned, turn}
 use Rattle.parameter_sets.specs.Sps.{base_level}
 use Rattle.parameter_sets.specs.Pps.{pps_payload}
 use Rattle.parameter_sets.specs.Read.{read_sps}

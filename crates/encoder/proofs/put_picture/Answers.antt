@@ -20,12 +20,12 @@ put_picture-requires c =
     let q = sequence_of c.args.s in
     let l = lends c.args.y.now c.args.cb.now c.args.cr.now c.args.strides in
     let d = c.args.out.now in
-    let o = (c.open_unit-a.ensures.value, c.open_unit-a.ensures.out_after) in record { ready = c.requires.ready; le_at = omega (arith, o.0); strides_in_bounds = frame_room d c.args.at picture_header (picture_of q l) (omega arith) (picture_room q l c.args.at (length d) c.requires.strides_in_bounds) o.1 o.0 }
+    let o = c.open_unit-a.ensures in record { ready = c.requires.ready; le_at = omega (arith, o.value); strides_in_bounds = frame_room d c.args.at picture_header (picture_of q l) (omega arith) (picture_room q l c.args.at (length d) c.requires.strides_in_bounds) o.out_after o.value }
 
 pub returns : goal.returns
 returns c =
     let q = sequence_of c.args.s in
     let l = lends c.args.y.now c.args.cb.now c.args.cr.now c.args.strides in
     let d = c.args.out.now in
-    let o = (c.open_unit-a.ensures.value, c.open_unit-a.ensures.out_after) in
-    laid_picture q l (frame-put d c.args.at picture_header (picture_of q l) (omega arith) (picture_room q l c.args.at (length d) c.requires.strides_in_bounds) o.1 o.0 c.put_picture.ensures)
+    let o = c.open_unit-a.ensures in
+    laid_picture q l (frame-put d c.args.at picture_header (picture_of q l) (omega arith) (picture_room q l c.args.at (length d) c.requires.strides_in_bounds) o.out_after o.value c.put_picture.ensures)

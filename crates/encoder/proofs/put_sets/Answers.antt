@@ -18,7 +18,7 @@ put_slice-b-requires c =
     let g = c.sps-sps.ensures in
     let d = c.args.out.now in
     let m : 0 + length (framed sps_header (sps_payload base_level q)) ≤ length d = omega (arith, c.requires.s_in_bounds, sets-length q, framed-length sps_header (sps_payload base_level q)) in
-    let o = (c.open_unit-a.ensures.value, c.open_unit-a.ensures.out_after) in record { n_in_bounds = omega (arith, holds_room _ _ g); n_in_bounds_2 = set_room d 0 sps_header g (omega arith) m o.1 o.0 }
+    let o = c.open_unit-a.ensures in record { n_in_bounds = omega (arith, holds_room _ _ g); n_in_bounds_2 = set_room d 0 sps_header g (omega arith) m o.out_after o.value }
 
 pub put_unit-requires : goal.put_unit-requires
 put_unit-requires c =
@@ -26,7 +26,7 @@ put_unit-requires c =
     let g = c.sps-sps.ensures in
     let d = c.args.out.now in
     let m : 0 + length (framed sps_header (sps_payload base_level q)) ≤ length d = omega (arith, c.requires.s_in_bounds, sets-length q, framed-length sps_header (sps_payload base_level q)) in
-    let o = (c.open_unit-a.ensures.value, c.open_unit-a.ensures.out_after) in record { header_nonzero = omega arith; payload_in_bounds = second_room q c.pps-pps.ensures c.requires.s_in_bounds (set-framed d 0 sps_header g (omega arith) m o.1 o.0 c.put_slice-b.ensures) }
+    let o = c.open_unit-a.ensures in record { header_nonzero = omega arith; payload_in_bounds = second_room q c.pps-pps.ensures c.requires.s_in_bounds (set-framed d 0 sps_header g (omega arith) m o.out_after o.value c.put_slice-b.ensures) }
 
 pub returns : goal.returns
 returns c =
@@ -34,5 +34,5 @@ returns c =
     let g = c.sps-sps.ensures in
     let d = c.args.out.now in
     let m : 0 + length (framed sps_header (sps_payload base_level q)) ≤ length d = omega (arith, c.requires.s_in_bounds, sets-length q, framed-length sps_header (sps_payload base_level q)) in
-    let o = (c.open_unit-a.ensures.value, c.open_unit-a.ensures.out_after) in
-    laid-sets q c.requires.s_in_bounds (set-framed d 0 sps_header g (omega arith) m o.1 o.0 c.put_slice-b.ensures) (framed_as c.pps-pps.ensures c.put_unit.ensures)
+    let o = c.open_unit-a.ensures in
+    laid-sets q c.requires.s_in_bounds (set-framed d 0 sps_header g (omega arith) m o.out_after o.value c.put_slice-b.ensures) (framed_as c.pps-pps.ensures c.put_unit.ensures)

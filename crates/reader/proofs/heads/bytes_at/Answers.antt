@@ -1,5 +1,5 @@
 -- `reader::heads::bytes_at` meets its contract. The loop's invariant: the bytes that are there. Assumes nothing.
-use Rattle.std.proofs.Common.{◌-◌, arith}
+use Rattle.std.proofs.Common.{arith}
 use Rattle.reader.specs.Heads.{beginning_start, beginning_some, beginning_not, beginning_turn, beginning_end}
 use Rattle.reader.proofs.heads.bytes_at.Goals as goal
 

@@ -1,5 +1,5 @@
 -- `reader::heads::heads` meets its contract. The loop's invariant: the place of a macroblock's samples, and the heads that are right. Assumes nothing.
-use Rattle.std.proofs.Common.{◌-◌, arith}
+use Rattle.std.proofs.Common.{arith}
 use borrow.Author.Tests.{not-true, not-false}
 use Rattle.reader.specs.Heads.{heading_start, heading_samples, heading_behind, heading_two, heading_not, heading_turn, heading_last, heading_end}
 use Rattle.reader.proofs.heads.heads.Goals as goal

@@ -1,5 +1,5 @@
 -- `reader::samples::band` meets its contract. The loop's invariant: where the next line stands, and the lines that are laid. Assumes nothing.
-use Rattle.std.proofs.Common.{◌+◌, ◌-◌, ◌*◌, zero-mul, mul-le-mul_right, arith}
+use Rattle.std.proofs.Common.{◌+◌, ◌*◌, zero-mul, mul-le-mul_right, arith}
 use Rattle.slice.specs.Cat.{Even, cat-length}
 use Rattle.slice.specs.Laid.{laying_start, laying_room, laying_turn, laying_end}
 use Rattle.reader.specs.Bands.{lines_of, line_in, lines_even, line-laid}

@@ -1,5 +1,5 @@
 -- `reader::samples::samples` meets its contract. The loop's invariant: the macroblocks that are taken, and the places behind them. Assumes nothing.
-use Rattle.std.proofs.Common.{◌≡◌, sym, ap, ℕ, ◌+◌, ◌-◌, ◌*◌, ◌<◌, zero-mul, mul-le-mul_right, arith}
+use Rattle.std.proofs.Common.{◌≡◌, sym, ap, ℕ, ◌+◌, ◌*◌, ◌<◌, zero-mul, mul-le-mul_right, arith}
 use Rattle.ycbcr_image.specs.Sizes.{sequence_of, pic_width_in_mbs, frame_height_in_mbs}
 use Rattle.slice.specs.Picture.{mbs_in}
 use Rattle.nal_unit.specs.Taking.{stands-pass}

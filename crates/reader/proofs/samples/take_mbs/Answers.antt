@@ -1,5 +1,5 @@
 -- `reader::samples::take_mbs` meets its contract. The loop's invariant: the macroblocks that are taken, and the places behind them. Assumes nothing.
-use Rattle.std.proofs.Common.{◌≡◌, sym, ℕ, ◌+◌, ◌-◌, ◌*◌, ◌<◌, add-zero, arith}
+use Rattle.std.proofs.Common.{◌≡◌, sym, ℕ, ◌+◌, ◌*◌, ◌<◌, add-zero, arith}
 use Rattle.ycbcr_image.specs.Sizes.{sequence_of, pic_width_in_mbs}
 use Rattle.slice.specs.Picture.{length_most}
 use Rattle.reader.specs.Heads.{payload_at}

@@ -1,5 +1,5 @@
 -- `reader::samples::take_rows` meets its contract. The loop's invariant: the rows that are taken, and the places behind them. Assumes nothing.
-use Rattle.std.proofs.Common.{◌-◌, mul-le-mul_right, arith}
+use Rattle.std.proofs.Common.{mul-le-mul_right, arith}
 use Rattle.reader.specs.Samples.{rows_start, rows-kept, rows_room, rows_cut, rows_rest, rows_turn, rows_end}
 use Rattle.reader.proofs.samples.take_rows.Goals as goal
 
