@@ -1,6 +1,7 @@
 // The library as C sees it (include/reelpony.h). Kinds, depths and sessions are numbers here; a number that is none of them is refused with 99 before every
 // other test. Each function answers paper 01's number, 0 where the call is accepted.
 #![tactic(auto)]
+
 pub mod pieces;
 pub mod read;
 
@@ -130,8 +131,7 @@ fn length_in(a: Encoded) -> usize
 }
 
 // The start call: writes the parameter sets and the first picture, and begins a session.
-#[unsafe(no_mangle)]
-pub extern "C" fn reelpony_start(
+pub fn reelpony_start(
     width: u32,
     height: u32,
     colour: u32,
@@ -177,8 +177,7 @@ pub extern "C" fn reelpony_start(
 }
 
 // The next call: writes one more picture in the session that the numbers say, and leaves them as they are.
-#[unsafe(no_mangle)]
-pub extern "C" fn reelpony_next(
+pub fn reelpony_next(
     width: u32,
     height: u32,
     colour: u32,
@@ -225,8 +224,7 @@ pub extern "C" fn reelpony_next(
 
 // A length of the output with which no call with a picture of this size, colour and depth is refused with 9, whatever the samples; 0 where such a call is
 // refused with 99 or 1 to 5.
-#[unsafe(no_mangle)]
-pub extern "C" fn reelpony_room(width: u32, height: u32, colour: u32, depth: u32) -> u64
+pub fn reelpony_room(width: u32, height: u32, colour: u32, depth: u32) -> u64
     ensures { result ≡ room_number width height colour depth }
 {
     if !all_known(colour, depth, depth, depth) {

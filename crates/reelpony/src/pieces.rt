@@ -12,8 +12,7 @@ use nal_unit::Escaped;
 use nal_unit::unescape::Unescaped;
 
 // Escapes a payload into the output, from its first byte on: 0 and the length written, or 21, no room.
-#[unsafe(no_mangle)]
-pub extern "C" fn reelpony_escape(payload: &[u8], out: &mut [u8], length: &mut u64) -> u32
+pub fn reelpony_escape(payload: &[u8], out: &mut [u8], length: &mut u64) -> u32
     ensures number { result ≡ escape_number payload.now out.old }
     ensures length { length.new ≡ escape_length payload.now out.old }
     ensures bytes { out.new ≡ escaped_out payload.now out.old }
@@ -29,8 +28,7 @@ pub extern "C" fn reelpony_escape(payload: &[u8], out: &mut [u8], length: &mut u
 }
 
 // Takes the payload out of escaped bytes into the output, from its first byte on: 0 and the length written, 12, they hold what no unit holds, or 21, no room.
-#[unsafe(no_mangle)]
-pub extern "C" fn reelpony_unescape(payload: &[u8], out: &mut [u8], length: &mut u64) -> u32
+pub fn reelpony_unescape(payload: &[u8], out: &mut [u8], length: &mut u64) -> u32
     ensures number { result ≡ unescape_number payload.now out.old }
     ensures length { length.new ≡ unescape_length payload.now out.old }
     ensures bytes { out.new ≡ unescape_buffer payload.now out.old }
@@ -63,8 +61,7 @@ fn tell(a: CodeWritten, place: u64, behind: &mut u64) -> u32
 }
 
 // Writes the unsigned code of `x` at a bit place of the buffer: 0 and the place behind it, 20, `x` has no code, or 21, no room.
-#[unsafe(no_mangle)]
-pub extern "C" fn reelpony_write_ue(buffer: &mut [u8], place: u64, x: u32, behind: &mut u64) -> u32
+pub fn reelpony_write_ue(buffer: &mut [u8], place: u64, x: u32, behind: &mut u64) -> u32
     ensures number { result ≡ write_number (has_ue x) (ue x) buffer.old place }
     ensures behind { behind.new ≡ write_behind (has_ue x) (ue x) buffer.old place }
     ensures bytes { buffer.new ≡ write_buffer (has_ue x) (ue x) buffer.old place }
@@ -74,8 +71,7 @@ pub extern "C" fn reelpony_write_ue(buffer: &mut [u8], place: u64, x: u32, behin
 }
 
 // The same of the signed code of `x`.
-#[unsafe(no_mangle)]
-pub extern "C" fn reelpony_write_se(buffer: &mut [u8], place: u64, x: i32, behind: &mut u64) -> u32
+pub fn reelpony_write_se(buffer: &mut [u8], place: u64, x: i32, behind: &mut u64) -> u32
     ensures number { result ≡ write_number (has_se x) (se x) buffer.old place }
     ensures behind { behind.new ≡ write_behind (has_se x) (se x) buffer.old place }
     ensures bytes { buffer.new ≡ write_buffer (has_se x) (se x) buffer.old place }
@@ -85,8 +81,7 @@ pub extern "C" fn reelpony_write_se(buffer: &mut [u8], place: u64, x: i32, behin
 }
 
 // Reads the unsigned code at a bit place of the payload: 0, the number in `x` and the place behind the code, or 22, no whole code.
-#[unsafe(no_mangle)]
-pub extern "C" fn reelpony_read_ue(payload: &[u8], place: u64, x: &mut u32, behind: &mut u64) -> u32
+pub fn reelpony_read_ue(payload: &[u8], place: u64, x: &mut u32, behind: &mut u64) -> u32
     ensures number { result ≡ read_ue_number payload.now place }
     ensures x { x.new ≡ read_ue_x payload.now place x.old }
     ensures behind { behind.new ≡ read_ue_behind payload.now place }
@@ -103,8 +98,7 @@ pub extern "C" fn reelpony_read_ue(payload: &[u8], place: u64, x: &mut u32, behi
 }
 
 // The same of the signed code there.
-#[unsafe(no_mangle)]
-pub extern "C" fn reelpony_read_se(payload: &[u8], place: u64, x: &mut i32, behind: &mut u64) -> u32
+pub fn reelpony_read_se(payload: &[u8], place: u64, x: &mut i32, behind: &mut u64) -> u32
     ensures number { result ≡ read_se_number payload.now place }
     ensures x { x.new ≡ read_se_x payload.now place x.old }
     ensures behind { behind.new ≡ read_se_behind payload.now place }

@@ -157,8 +157,7 @@ fn words_after(ws: &[u64; 8], t: Step) -> [u64; 8]
 }
 
 // The call: one answer about what stands in the take from the reader's place on. Answers a refusal's number, or 0.
-#[unsafe(no_mangle)]
-pub extern "C" fn reelpony_read(
+pub fn reelpony_read(
     take: &[u8],
     y: &mut [u8],
     cb: &mut [u8],
@@ -180,8 +179,7 @@ pub extern "C" fn reelpony_read(
 }
 
 // The length that the lent plane `plane` must have for a picture in this state; 0 where none is needed.
-#[unsafe(no_mangle)]
-pub extern "C" fn reelpony_plane_len(reader: &[u64; 8], plane: u32) -> u64
+pub fn reelpony_plane_len(reader: &[u64; 8], plane: u32) -> u64
     ensures { result ≡ plane_length (held_in reader.now) plane }
 {
     reader::plane_len(sets_in(reader), plane) as u64

@@ -49,11 +49,11 @@ module _ (room : ℕ → ℕ) where
   unfolding unit_verdict pps_verdict
   short_pps q count l = rw (not_same (take count pps_payload) pps_payload (omega (arith, length-take count pps_payload))) refl
 
-  short_picture : (q : Sequence) (L : P.Lends) (count : ℕ) → possible q ≡ true → Fine q → P.Whole q L → count < length (P.pictureOf q L)
-      → unit_verdict room (having q true) 0x25 (take count (P.pictureOf q L)) ≡ keep (having q true) (refused 17)
+  short_picture : (q : Sequence) (L : P.Lends) (count : ℕ) → possible q ≡ true → Fine q → P.Whole q L → count < length (P.picture_of q L)
+      → unit_verdict room (having q true) 0x25 (take count (P.picture_of q L)) ≡ keep (having q true) (refused 17)
   unfolding unit_verdict held_verdict picture_verdict
   short_picture q L count e g w l =
-      rw (counted_is q true e, lt-ltb (length (take count (P.pictureOf q L))) (P.pictureLength q) (omega (arith, length-take count (P.pictureOf q L), P.picture-length q L g w))) refl
+      rw (counted_is q true e, lt-ltb (length (take count (P.picture_of q L))) (P.picture_length q) (omega (arith, length-take count (P.picture_of q L), P.picture_length_lem q L g w))) refl
 
   -- a unit of a take, cut behind its header
   pub cut-sps : (s : Session) (m : ℕ) → accepted (sequence_of s) ≡ true → suc m < length (sps_unit (sequence_of s)) → judge room nothing (trim (take (suc m) (sps_unit (sequence_of s)))) ≡ keep nothing (refused 14)
@@ -67,7 +67,7 @@ module _ (room : ℕ → ℕ) where
   pub cut_picture : (q : Sequence) (L : P.Lends) (m : ℕ) → possible q ≡ true → Fine q → P.Whole q L → suc m < length (picture_unit q L)
       → judge room (having q true) (trim (take (suc m) (picture_unit q L))) ≡ keep (having q true) (refused 17)
   unfolding picture_unit
-  cut_picture q L m e g w l = judge-cut (having q true) 0x25 m (P.pictureOf q L) 17 (omega arith) (omega arith) (λ count k. short_picture q L count e g w k)
+  cut_picture q L m e g w l = judge-cut (having q true) 0x25 m (P.picture_of q L) 17 (omega arith) (omega arith) (λ count k. short_picture q L count e g w k)
 
   -- a bare start code
   pub cut-bare : (h : Held) → judge room h (trim []) ≡ keep h (refused 11)

@@ -166,12 +166,12 @@ shoot_of S =
 pub take_in : ShootIn → Take
 take_in S = take_of (shoot_of S)
 
-nexts_shots : (s : Session) (ks : List CallIn) → W.shotsIn (wrotes s ks) ≡ next_shots ks
+nexts_shots : (s : Session) (ks : List CallIn) → W.shots_in (wrotes s ks) ≡ next_shots ks
 unfolding wrotes next_shots
 nexts_shots s [] = refl
 nexts_shots s (k ∷ ks) = go (eqb k.number 0) refl (nexts_shots s ks)
   where
-    go : (b : Bool) → eqb k.number 0 ≡ b → W.shotsIn (wrotes s ks) ≡ next_shots ks → W.shotsIn (wrotes s (k ∷ ks)) ≡ next_shots (k ∷ ks)
+    go : (b : Bool) → eqb k.number 0 ≡ b → W.shots_in (wrotes s ks) ≡ next_shots ks → W.shots_in (wrotes s (k ∷ ks)) ≡ next_shots (k ∷ ks)
     go true i e = rw (i, e) refl
     go false i e = rw (i, e) refl
 

@@ -36,7 +36,7 @@ held_is q b e = ap (λ (h : Held). h.sps) (counted_is q b e)
 
 -- the visible samples of the lent planes
 abbrev pub visible_of : Sequence → P.Lends → Samples
-visible_of q L = record { y = P.visibleIn q 0 L.y; cb = P.visibleIn q 1 L.cb; cr = P.visibleIn q 2 L.cr }
+visible_of q L = record { y = P.visible_in q 0 L.y; cb = P.visible_in q 1 L.cb; cr = P.visible_in q 2 L.cr }
 
 module _ (room : ℕ → ℕ) where
   -- a unit of a nonzero header and an escape goes to the verdict by its header
@@ -69,15 +69,15 @@ module _ (room : ℕ → ℕ) where
   unfolding unit_verdict held_verdict
   verdict_picture q X e = rw (counted_is q true e) refl
 
-  accepted_picture : (q : Sequence) (L : P.Lends) → Fine q → P.Whole q L → Enough room (having q true) → possible q ≡ true → picture_verdict room (having q true) q (P.pictureOf q L) ≡ keep (having q true) (picture (visible_of q L))
+  accepted_picture : (q : Sequence) (L : P.Lends) → Fine q → P.Whole q L → Enough room (having q true) → possible q ≡ true → picture_verdict room (having q true) q (P.picture_of q L) ≡ keep (having q true) (picture (visible_of q L))
   unfolding picture_verdict formless
   accepted_picture q L g w n e =
-      let l = P.picture-length q L g w in
-      rw (le-ltb (length (P.pictureOf q L)) (P.pictureLength q) (omega arith), le-ltb (P.pictureLength q) (length (P.pictureOf q L)) (omega arith), P.picture-right q L g w, enough-long room (having q true) q n (held_is q true e))
-      (rw (P.picture-back q L g w 0 (omega arith), P.picture-back q L g w 1 (omega arith), P.picture-back q L g w 2 (omega arith)) refl)
+      let l = P.picture_length_lem q L g w in
+      rw (le-ltb (length (P.picture_of q L)) (P.picture_length q) (omega arith), le-ltb (P.picture_length q) (length (P.picture_of q L)) (omega arith), P.picture_right q L g w, enough-long room (having q true) q n (held_is q true e))
+      (rw (P.picture_back q L g w 0 (omega arith), P.picture_back q L g w 1 (omega arith), P.picture_back q L g w 2 (omega arith)) refl)
 
   -- a picture, with both sets held and planes that are long enough: its visible samples
   pub judged_picture : (q : Sequence) (L : P.Lends) → possible q ≡ true → Fine q → P.Whole q L → Enough room (having q true)
       → judge room (having q true) (picture_unit q L) ≡ keep (having q true) (picture (visible_of q L))
   unfolding picture_unit
-  judged_picture q L e g w n = judge-unit (having q true) 0x25 (P.pictureOf q L) (omega arith) ∙ (verdict_picture q (P.pictureOf q L) e ∙ accepted_picture q L g w n e)
+  judged_picture q L e g w n = judge-unit (having q true) 0x25 (P.picture_of q L) (omega arith) ∙ (verdict_picture q (P.picture_of q L) e ∙ accepted_picture q L g w n e)

@@ -77,9 +77,9 @@ pps_last : 0 < last_of 1 pps_payload
 unfolding last_of
 pps_last = rw pps_is (omega arith)
 
-picture_ends : (q : Sequence) (L : P.Lends) → Fine q → P.Whole q L → 0 < last_of 1 (P.pictureOf q L)
-unfolding P.pictureLength
-picture_ends q L g w = rw (last_is 1 (P.pictureOf q L) (omega (arith, P.picture-length q L g w)), P.picture-last q L g w) (omega arith)
+picture_ends : (q : Sequence) (L : P.Lends) → Fine q → P.Whole q L → 0 < last_of 1 (P.picture_of q L)
+unfolding P.picture_length
+picture_ends q L g w = rw (last_is 1 (P.picture_of q L) (omega (arith, P.picture_length_lem q L g w)), P.picture_last q L g w) (omega arith)
 
 -- ---- the units
 
@@ -93,4 +93,4 @@ pps_unit_lem = whole 0x68 pps_payload (omega arith) pps_last
 
 pub picture_unit_lem : (q : Sequence) (L : P.Lends) → Fine q → P.Whole q L → Whole (picture_unit q L)
 unfolding picture_unit
-picture_unit_lem q L g w = whole 0x25 (P.pictureOf q L) (omega arith) (picture_ends q L g w)
+picture_unit_lem q L g w = whole 0x25 (P.picture_of q L) (omega arith) (picture_ends q L g w)

@@ -63,8 +63,8 @@ module _ (q : Sequence) (e : possible q ≡ true) where
   unfolding picture_verdict
   keeps_picture X =
       rw (enough-long room h q (enough_own h) (held_is q true e))
-      (by_test Keeps (ltb (length X) (P.pictureLength q)) (kept (refused 17))
-      (by_test Keeps (J.formless q X) (kept (refused 18)) (kept (picture (J.samplesOf q X)))))
+      (by_test Keeps (ltb (length X) (P.picture_length q)) (kept (refused 17))
+      (by_test Keeps (J.formless q X) (kept (refused 18)) (kept (picture (J.samples_of q X)))))
 
   keeps-unit : (x : ℕ) (X : List ℕ) → Keeps (unit_verdict room h x X)
   unfolding unit_verdict held_verdict
