@@ -11,7 +11,7 @@ pub const BYTES: usize = 16;
 pub const BITS: usize = 128;
 
 // A number with the kind of its code.
-#[derive(Drop)]
+#[derive(Clone, Copy)]
 pub enum Number {
     Ue(u32),
     Se(i32),

@@ -3,9 +3,14 @@ ghost use Rattle.std.specs.Prelude.{◌^◌, ◌<◌};
 
 use crate::code::{Number, judge};
 use crate::count::{Tally, counted, none};
+use std::io;
+use std::io::Read;
+
+// The length that a list on standard input stays below.
+const LIST: usize = 400000;
 
 // What the next byte of a line belongs to; Broken where a byte before it was none that a line has there.
-#[derive(Drop)]
+#[derive(Clone, Copy)]
 enum Part {
     Kind,
     Letter,
@@ -18,7 +23,7 @@ enum Part {
 }
 
 // What is known of a line: its next part, whether its kind is signed, its number's sign and size, and its last space.
-#[derive(Drop)]
+#[derive(Clone, Copy)]
 struct Line {
     part: Part,
     signed: bool,
@@ -172,11 +177,11 @@ pub fn judge_text(text: &[u8]) -> Tally {
 }
 
 // Judges the list on standard input, of less than 400,000 bytes.
-pub fn judge_input() -> Tally {
-    let mut text = [0u8; 400000];
-    let n = io::read_full(libc::STDIN_FILENO, &mut text);
-    if n == 400000 {
-        return counted(none(), false);
+pub fn judge_input(rt: &(impl Input + Alloc)) -> io::Result<Tally> {
+    let mut text = Vec::new(rt.alloc());
+    rt.reader().take(LIST as u64).read_to_end(&mut text)?;
+    if text.len() == LIST {
+        return Ok(counted(none(), false));
     }
-    judge_text(&text[..n])
+    Ok(judge_text(&text))
 }

@@ -1,5 +1,4 @@
-// Codes read through the bit reader, the form that paper 01 names: a reader of the payload is made, moved to the place, and read. Both are proved by hand,
-// since they hold a struct with a slice; what calls them is not.
+// Codes read through the bit reader: a reader of the payload is made, moved to the place, and read.
 ghost use Rattle.std.specs.Prelude.{◌≡◌};
 ghost use Rattle.golomb.specs.Answers.{read_ue, read_se};
 

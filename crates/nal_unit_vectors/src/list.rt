@@ -1,7 +1,12 @@
 // A list of escapes, a line for each: the payload and its escape in hex digits, as `68000000 6800000300`; `-` is no bytes.
 use crate::count::{Tally, counted, none};
 use crate::pair::judge_parts;
+use std::io;
+use std::io::Read;
 use std::num::wrapping_add_usize;
+
+// The length that a list on standard input stays below.
+const LIST: usize = 300000;
 
 // No byte, and more bytes than a buffer has: what is malformed.
 const BAD: usize = 1000000;
@@ -69,7 +74,7 @@ fn judge_words(t: Tally, first: &[u8], second: &[u8]) -> Tally {
 }
 
 // Where a line begins, and its last space.
-#[derive(Drop)]
+#[derive(Clone, Copy)]
 struct Line {
     start: usize,
     space: usize,
@@ -124,11 +129,11 @@ fn judge_text(text: &[u8]) -> Tally {
 }
 
 // Judges the list on standard input, of less than 300,000 bytes; an empty one is wrong.
-pub fn judge_input() -> Tally {
-    let mut text = [0u8; 300000];
-    let n = io::read_full(libc::STDIN_FILENO, &mut text);
-    if n == 0 || n == 300000 {
-        return counted(none(), false);
+pub fn judge_input(rt: &(impl Input + Alloc)) -> io::Result<Tally> {
+    let mut text = Vec::new(rt.alloc());
+    rt.reader().take(LIST as u64).read_to_end(&mut text)?;
+    if text.is_empty() || text.len() == LIST {
+        return Ok(counted(none(), false));
     }
-    judge_text(&text[..n])
+    Ok(judge_text(&text))
 }

@@ -7,14 +7,14 @@ use nal_unit::unescape::Unescaped;
 pub const BYTES: usize = 512;
 
 // What is made: the escape of a payload, or the payload of an escape.
-#[derive(Drop)]
+#[derive(Clone, Copy)]
 pub enum Way {
     Escape,
     Unescape,
 }
 
 // An answer: its number, 0 or that of a refusal, and the length written.
-#[derive(Drop)]
+#[derive(Clone, Copy)]
 struct Answer {
     number: u32,
     length: usize,
