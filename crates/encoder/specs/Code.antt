@@ -24,7 +24,8 @@ use Rattle.ycbcr_image.specs.declared.Session.{Session}
 use Rattle.ycbcr_image.specs.declared.YCbCrImage.{YCbCrImage}
 use Rattle.ycbcr_image.specs.Sizes.{Sequence, sequence_of}
 use Rattle.ycbcr_image.specs.Refusals.{session_of, refusal_of, refusal_next, accepted}
-use Rattle.ycbcr_image.specs.Passed.{Passed, passed, passed_next}
+use Rattle.ycbcr_image.specs.Passed.{Passed}
+use Rattle.ycbcr_image.proofs.Passed.{passed, passed_next}
 use Rattle.slice.specs.Picture.{Lends, picture_of}
 use Rattle.slice.specs.Macroblocks.{Ready}
 use Rattle.slice.specs.Laid.{Laid, laid_more}

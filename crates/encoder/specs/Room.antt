@@ -13,7 +13,8 @@ use Rattle.ycbcr_image.specs.declared.Session.{Session}
 use Rattle.ycbcr_image.specs.Sizes.{Sequence, sequence_of}
 use Rattle.ycbcr_image.specs.Refusals.{session_of, depths_bad, accepted}
 use Rattle.ycbcr_image.specs.Accepted.{Fine}
-use Rattle.ycbcr_image.specs.Passed.{Passed, passed, passed_next}
+use Rattle.ycbcr_image.specs.Passed.{Passed}
+use Rattle.ycbcr_image.proofs.Passed.{passed, passed_next}
 use Rattle.ycbcr_image.specs.Shape.{of_shape, Shaped, shaped, shaped_next}
 use Rattle.slice.specs.Picture.{Lends, picture_of, picture_length, picture_length_lem, length_most}
 use Rattle.slice.specs.Macroblocks.{Ready}

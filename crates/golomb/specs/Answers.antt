@@ -1,5 +1,6 @@
 -- What the public calls answer, in the numbers and values of paper 01, and what they leave in the buffer.
 -- Assumes nothing.
+-- ---- writing
 use Rattle.std.specs.Prelude.{◌≡◌, refl, List, Bool, true, false, cond, ◌&&◌, ℕ, ◌+◌, ◌-◌, ◌^◌, ◌≤◌, ◌<◌, leb, ℤ, nat_abs, length}
 use Rattle.std.proofs.Common.{arith, le-leb}
 use Rattle.std.proofs.lemmas.Bool.{lt-leb}
@@ -17,8 +18,6 @@ use Rattle.golomb.specs.declared.SeRead.{SeRead}
 use Rattle.golomb.specs.declared.SeRead.TheVariants as Se
 use Rattle.golomb.specs.declared.BitsRead.{BitsRead}
 use Rattle.golomb.specs.declared.BitsRead.TheVariants as U
-
--- ---- writing
 
 -- 20: no code exists for the number, tested first; 21: no room
 abbrev pub written : CodeWritten → ℕ
@@ -41,10 +40,6 @@ abbrev pub buffer_of : CodeWritten → List ℕ → List ℕ → ℕ → List �
 buffer_of (Behind p) code s place = packed (splice (bits_of s) place code)
 buffer_of NoCode code s place = s
 buffer_of NoRoom code s place = s
-
-pub write_none : (code s : List ℕ) (place : ℕ) → write_of false code s place ≡ NoCode
-unfolding write_of
-write_none code s place = refl
 
 pub write_short : (code s : List ℕ) (place : ℕ) → bit_count s < place + length code → write_of true code s place ≡ NoRoom
 unfolding write_of

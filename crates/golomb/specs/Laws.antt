@@ -6,24 +6,21 @@
 --     ue-grow                       a code that is read in the first bytes of a buffer is read in the buffer
 --     ue-cut, se-cut                a buffer that ends inside a code: no code is read
 -- Assumes nothing.
+-- ---- what is written
 use Rattle.std.specs.Prelude.{◌≡◌, refl, List, [], ◌++◌, Bool, true, false, ℕ, ◌+◌, ◌-◌, ◌*◌, ◌^◌, ◌≤◌, ◌<◌, ℤ, nat_abs, length, take, drop}
-use Rattle.std.proofs.Common.{sym, ap, ◌∙◌, arith, add-zero, length-append, length-take, leb-true}
+use Rattle.std.proofs.Common.{sym, ap, ◌∙◌, arith, add-zero, length-append, length-take}
 use Rattle.lists.specs.Every.{Below, below_splice}
 use Rattle.lists.specs.Fill.{splice, splice-length}
 use Rattle.lists.specs.Part.{part, part-between, part-take, splice-part}
-use Rattle.lists.specs.Test.{either}
 use Rattle.bits.specs.Bits.{bits_of, bits_from, bit_count, bits-length, bits_below, bits-take, count-length, count_same, from_split, from_below, from_length, from_part}
 use Rattle.bits.specs.Pack.{packed, bits-packed_whole}
-use Rattle.golomb.specs.Code.{ue, ue_below, ue-long}
+use Rattle.golomb.specs.Code.{ue, ue-long}
 use Rattle.golomb.specs.Read.{whole, code_num, code_bits, read-ue, ue-read, ue-prefix}
-use Rattle.golomb.specs.Signed.{mapped, unmapped, unmap_map, map_unmap, map_most, unmap_most, se, se_below}
-use Rattle.golomb.specs.Answers.{write_of, buffer_of, has_ue, has_se, read_ue, read_se, signed, ue_none, ue_some, se_is, write_none, write_short, write_fits}
-use Rattle.golomb.specs.declared.CodeWritten.TheVariants.{Behind}
+use Rattle.golomb.specs.Signed.{mapped, unmapped, unmap_map, map_unmap, map_most, unmap_most, se}
+use Rattle.golomb.specs.Answers.{read_ue, read_se, signed, ue_none, ue_some, se_is}
 use Rattle.golomb.specs.declared.UeRead.{UeRead}
 use Rattle.golomb.specs.declared.UeRead.TheVariants as Ue
 use Rattle.golomb.specs.declared.SeRead.TheVariants as Se
-
--- ---- what is written
 
 pub buffer-bits : (s : List ℕ) (place : ℕ) (code : List ℕ) → Below 2 code → place + length code ≤ bit_count s
     → bits_of (packed (splice (bits_of s) place code)) ≡ splice (bits_of s) place code
@@ -32,7 +29,7 @@ buffer-bits s place code b h =
     bits-packed_whole (splice (bits_of s) place code) (below_splice (bits_of s) place code (bits_below s) b) (omega (arith, bits-length s))
 
 -- the code stands at its place in the buffer
-stands : (s : List ℕ) (place : ℕ) (code : List ℕ) → Below 2 code → place + length code ≤ bit_count s
+pub stands : (s : List ℕ) (place : ℕ) (code : List ℕ) → Below 2 code → place + length code ≤ bit_count s
     → bits_from (packed (splice (bits_of s) place code)) place ≡ code ++ bits_from (packed (splice (bits_of s) place code)) (place + length code)
 stands s place code b h =
     let t : List ℕ = packed (splice (bits_of s) place code) in
@@ -57,29 +54,10 @@ se-stands s place x t h e =
 -- ---- reading what was written
 
 -- what an accepted call tells
-record Accepted (has : Bool) (code s : List ℕ) (place p : ℕ) : Type 0 where
-  domain : has ≡ true
-  room : place + length code ≤ bit_count s
-  behind : p ≡ place + length code
-
-accepted : (has : Bool) (code s : List ℕ) (place p : ℕ) → write_of has code s place ≡ Behind p → Accepted has code s place p
-accepted true code s place p e =
-    either (place + length code) (bit_count s)
-    (λ h. record { domain = refl; room = h; behind = cc (write_fits code s place h) })
-    (λ h. let z : ◌≡◌ {A = ℕ} 0 1 = cc (write_short code s place h) in absurd (omega arith))
-accepted false code s place p e = let z : ◌≡◌ {A = ℕ} 0 1 = cc (write_none code s place) in absurd (omega arith)
-
-pub ue-written-read : (s : List ℕ) (place x p : ℕ) → write_of (has_ue x) (ue x) s place ≡ Behind p → read_ue (buffer_of (Behind p) (ue x) s place) place ≡ Ue.Number x p
-unfolding has_ue
-ue-written-read s place x p e =
-    let a = accepted (has_ue x) (ue x) s place p e in
-    rw a.behind (ue-stands (packed (splice (bits_of s) place (ue x))) place x _ (leb-true x (2 ^ 32 - 2) a.domain) (stands s place (ue x) (ue_below x) a.room))
-
-pub se-written-read : (s : List ℕ) (place : ℕ) (x : ℤ) (p : ℕ) → write_of (has_se x) (se x) s place ≡ Behind p → read_se (buffer_of (Behind p) (se x) s place) place ≡ Se.Number x p
-unfolding has_se
-se-written-read s place x p e =
-    let a = accepted (has_se x) (se x) s place p e in
-    rw a.behind (se-stands (packed (splice (bits_of s) place (se x))) place x _ (leb-true (nat_abs x) (2 ^ 31 - 1) a.domain) (stands s place (se x) (se_below x) a.room))
+pub record Accepted (has : Bool) (code s : List ℕ) (place p : ℕ) : Type 0 where
+  pub domain : has ≡ true
+  pub room : place + length code ≤ bit_count s
+  pub behind : p ≡ place + length code
 
 -- ---- what is read was written
 

@@ -24,7 +24,7 @@ use Rattle.ycbcr_image.specs.declared.BitDepth.TheVariants.{Depth8, Depth12}
 use Rattle.ycbcr_image.specs.Form.{Form, form_of, depth_of, mono, sub_width_c, sub_height_c, crop_unit_x, crop_unit_y}
 use Rattle.ycbcr_image.specs.declared.Session.{Session}
 use Rattle.ycbcr_image.specs.Refusals.{accepted}
-use Rattle.ycbcr_image.specs.Accepted.{fine}
+use Rattle.ycbcr_image.proofs.Accepted.{fine}
 use Rattle.ycbcr_image.specs.Sizes.{Sequence, sequence_of, div_ceil, next_multiple, pic_width_in_mbs, frame_height_in_mbs}
 use Rattle.parameter_sets.specs.declared.FrameCropping.{FrameCropping}
 use Rattle.parameter_sets.specs.declared.SizeCodes.{SizeCodes}

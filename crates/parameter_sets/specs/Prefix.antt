@@ -17,7 +17,7 @@ use Rattle.ycbcr_image.specs.declared.Session.{Session}
 use Rattle.ycbcr_image.specs.Form.{form_of}
 use Rattle.ycbcr_image.specs.Sizes.{Sequence, sequence_of}
 use Rattle.ycbcr_image.specs.Refusals.{accepted}
-use Rattle.ycbcr_image.specs.Accepted.{fine}
+use Rattle.ycbcr_image.proofs.Accepted.{fine}
 use Rattle.parameter_sets.specs.Sps.{sps_payload}
 use Rattle.parameter_sets.specs.Read.{form_by, form_in, guessed, read_sps, sps-sound, sps_whole, guess_found}
 

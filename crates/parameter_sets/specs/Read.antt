@@ -29,7 +29,8 @@ use Rattle.ycbcr_image.specs.Form.{Form, form_of, mono, in_plane, block_width, b
 use Rattle.ycbcr_image.specs.declared.Session.{Session}
 use Rattle.ycbcr_image.specs.Sizes.{Sequence, sequence_of, pic_width_in_mbs, frame_height_in_mbs, visible_width, visible_height, padded_width, padded_height}
 use Rattle.ycbcr_image.specs.Refusals.{accepted}
-use Rattle.ycbcr_image.specs.Accepted.{Fine, fine}
+use Rattle.ycbcr_image.specs.Accepted.{Fine}
+use Rattle.ycbcr_image.proofs.Accepted.{fine}
 use Rattle.parameter_sets.specs.Sps.{profile_idc, chroma_fields, crop_right, crop_bottom, cropped, crop_fields, sps_bits, sps_payload}
 use Rattle.parameter_sets.specs.Split.{sps_head, sps_tail, sps-split, head-length, sps_below, sps_short, crop_yes, crop_no, right_most, bottom_most, code-stands, bit-stands}
 

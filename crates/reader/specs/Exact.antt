@@ -28,7 +28,8 @@ use Rattle.ycbcr_image.specs.declared.Kind.TheVariants.{Mono, Colour}
 use Rattle.ycbcr_image.specs.Form.{mb_bytes}
 use Rattle.ycbcr_image.specs.Sizes.{Sequence, sequence_of}
 use Rattle.ycbcr_image.specs.Refusals.{accepted}
-use Rattle.ycbcr_image.specs.Accepted.{Fine, fine}
+use Rattle.ycbcr_image.specs.Accepted.{Fine}
+use Rattle.ycbcr_image.proofs.Accepted.{fine}
 use Rattle.reader.specs.Judge.{Held, nothing, Word, sps, pps, picture, refused, possible, counted, keep, short, samples_of, formless, picture_verdict, held_verdict, unit_verdict, judge}
 
 abbrev pub IsPicture : Sequence → List ℕ → Type 0

@@ -3,16 +3,12 @@
 --     cut_word i r     the answer where the cut leaves r bytes of the frame of unit i
 --     broken-said     so it is
 -- Assumes nothing.
-use Rattle.std.specs.Prelude.{◌≡◌, List, [], ◌∷◌, ◌++◌, map, Bool, true, false, cond, ℕ, suc, ◌+◌, ◌-◌, ◌≤◌, ◌<◌, leb, ltb, eqb, length, take}
+use Rattle.std.specs.Prelude.{◌≡◌, List, [], ◌∷◌, ◌++◌, true, false, cond, ℕ, suc, ◌+◌, ◌-◌, ◌<◌, leb, ltb, eqb, length, take}
 use Rattle.std.proofs.Math.Path.{refl, ap}
-use Rattle.std.proofs.Math.Option.{none, some}
-use Rattle.std.proofs.Common.{arith, le-leb, le-ltb, ne_eqb}
-use Rattle.std.proofs.lemmas.Bool.{lt-leb}
-use Rattle.lists.specs.Test.{either}
+use Rattle.std.proofs.Common.{arith, le-ltb}
 use Rattle.nal_unit.specs.Walk.{trim}
-use Rattle.nal_unit.specs.Calls.{Verdict, said}
+use Rattle.nal_unit.specs.Calls.{Verdict}
 use Rattle.nal_unit.specs.Frame.{held_by}
-use Rattle.nal_unit.specs.Cut.{tell, Moves}
 use Rattle.ycbcr_image.specs.declared.Session.{Session}
 use Rattle.ycbcr_image.specs.Sizes.{Sequence}
 use Rattle.ycbcr_image.specs.Refusals.{session_of}
@@ -24,7 +20,7 @@ use Rattle.reader.specs.Enough.{plain}
 use Rattle.take.specs.Judged.{having, judged_sps}
 use Rattle.take.specs.Take.{Take, Frames, frames, Framed, size_of, units_of, picture_units}
 use Rattle.take.specs.Reading.{fits, sizes, sets-held}
-use Rattle.take.specs.Cut.{cut-sps, cut_pps, cut_picture, cut-bare}
+use Rattle.take.specs.Cut.{cut-sps, cut_pps, cut_picture}
 
 unfoldable pub cut_word : ℕ → ℕ → List Word
 cut_word i r = cond (leb r 3) [] (cond (eqb r 4) (refused 11 ∷ []) (cond (ltb i 2) (refused 14 ∷ []) (refused 17 ∷ [])))
@@ -54,7 +50,7 @@ module _ (T : Take) where
   held-sps = ap (λ (v : Verdict Held Word). v.held) (judged_sps (plane_length nothing) z (sizes T))
 
   -- the cut falls behind the header byte of the unit behind K
-  behind_header : (K : List (List ℕ)) (v : List ℕ) (ws : List (List ℕ)) (m : ℕ) → units_of T ≡ K ++ (v ∷ ws) → suc m < length v
+  pub behind_header : (K : List (List ℕ)) (v : List ℕ) (ws : List (List ℕ)) (m : ℕ) → units_of T ≡ K ++ (v ∷ ws) → suc m < length v
       → plain (held_by plain nothing K) (trim (take (suc m) v)) ≡ keep (held_by plain nothing K) (refused (cond (ltb (length K) 2) 14 17))
   behind_header [] v ws m e l =
       let u : v ≡ sps_unit q = cc in
@@ -74,29 +70,3 @@ module _ (T : Take) where
       shot s f y =
           let w = f.size in
           rw (y, ← w) (cut_picture (plane_length (having (sequence_in s) true)) (sequence_in s) (lends_of s) m (rw w (fits T)) f.pass.fine (shot_whole s f.pass) (rw y at l))
-
-  -- the cut leaves r bytes of the frame of the unit v behind K
-  pub broken-said : (K : List (List ℕ)) (v : List ℕ) (ws : List (List ℕ)) (p r : ℕ) → units_of T ≡ K ++ (v ∷ ws) → r < 4 + length v
-      → (Moves plain (held_by plain nothing K) (cond (leb r 3) none (some (take (r - 4) v))))
-      × (tell plain (held_by plain nothing K) p (cond (leb r 3) none (some (take (r - 4) v))) ≡ map (said (p + 4)) (cut_word (length K) r))
-  unfolding tell cut_word
-  broken-said K v ws p r e l = either r 3 few (λ k. either r 4 (bare k) many)
-    where
-      h : Held
-      h = held_by plain nothing K
-
-      one : (b : Bool) → said (p + 4) (refused (cond b 14 17)) ∷ [] ≡ map (said (p + 4)) (cond b (refused 14 ∷ []) (refused 17 ∷ []))
-      one true = refl
-      one false = refl
-
-      few : r ≤ 3 → (Moves plain h (cond (leb r 3) none (some (take (r - 4) v)))) × (tell plain h p (cond (leb r 3) none (some (take (r - 4) v))) ≡ map (said (p + 4)) (cut_word (length K) r))
-      few k = rw (le-leb r 3 k) (tt, refl)
-
-      bare : 3 < r → r ≤ 4 → (Moves plain h (cond (leb r 3) none (some (take (r - 4) v)))) × (tell plain h p (cond (leb r 3) none (some (take (r - 4) v))) ≡ map (said (p + 4)) (cut_word (length K) r))
-      bare k m = let i : r ≡ 4 = omega arith in rw i (rw (cut-bare (plane_length h) h) (refl, refl))
-
-      many : 4 < r → (Moves plain h (cond (leb r 3) none (some (take (r - 4) v)))) × (tell plain h p (cond (leb r 3) none (some (take (r - 4) v))) ≡ map (said (p + 4)) (cut_word (length K) r))
-      many k =
-          let i : r - 4 ≡ suc (r - 5) = omega arith in
-          let b = behind_header K v ws (r - 5) e (omega arith) in
-          rw (lt-leb r 3 (omega arith), ne_eqb r 4 (λ y. omega arith), i, b) (refl, one (ltb (length K) 2))

@@ -25,7 +25,6 @@ use Rattle.take.specs.Judged.{having}
 use Rattle.take.specs.Take.{Take, Frames, frames, frames_both, units_both, size_of, sets_and, bytes_of, picture_units, picture_words, bytes-units}
 use Rattle.take.specs.Reading.{listed, fits, full, sets-goes, sets-said, sets-held, pictures_said, pictures_whole}
 use Rattle.take.specs.Promises.{replaced}
-use Rattle.take.specs.Host.{Host, Call, Runs, served, Gets, fresh-get}
 
 -- where the zero before the next start code stands
 abbrev pub behind : Take → List Shot → ℕ
@@ -158,10 +157,3 @@ damaged T A B s C i j m e l a b =
           answers-add plain D (length K) (n + (length (s ∷ C) + c)) nothing 0
           ∙ rw (said, first, answers-add plain D n (length (s ∷ C) + c) h (behind T A + 1), arrives, tail c) refl;
     }
-
--- The same for the code: what any calls over the damaged take answer and leave that were served.
-pub host_damaged : (H : Host) (T : Take) (A B : List Shot) (s : Shot) (C : List Shot) (i j : ℕ) (m : List ℕ) (d : Damaged T A B s C i j m) (cs : List (Call H)) (c : ℕ)
-    → Runs H (replaced (bytes_of T) i j m) H.fresh cs → length (served H cs) ≡ length (sets_and (size_of T) A) + (d.n + (length (s ∷ C) + c))
-    → Gets H (served H cs) (listed 0 (sets_and (size_of T) A) (sps (size_of T) ∷ pps ∷ picture_words A)
-    ++ (d.between ++ (map (moved (j - i) (length m)) (listed (behind T (A ++ B)) (picture_units (s ∷ C)) (picture_words (s ∷ C)) ++ replicate c ended))))
-host_damaged H T A B s C i j m d cs c g z = rw (z, d.reads c) at (fresh-get H (replaced (bytes_of T) i j m) cs g)

@@ -12,7 +12,6 @@ use Rattle.nal_unit.specs.Walk.{blank, trim, Calm, meet-stray, stray_some, meet_
 use Rattle.nal_unit.specs.Calls.{ended, said, Turn, turn, answers, turn_end, turn_stray, turn_unit, reading-ends}
 use Rattle.reader.specs.Judge.{Held, Word, refused, judge}
 use Rattle.reader.specs.Enough.{plain, plain-moves, stay-nineteen}
-use Rattle.take.specs.Host.{Host, Call, Runs, served, Gets, runs-get}
 
 -- what a call does that does not end: it gives 19, or it moves
 abbrev pub Moves : Turn Held Word → Type 0
@@ -41,10 +40,3 @@ goes_on room h s = by (blank (take (next s) s)) refl
 
 pub ends : (s : List ℕ) (h : Held) (p : ℕ) → (n : ℕ) × (n ≤ length s) × ((k : ℕ) → answers plain s (n + k) h p ≡ answers plain s n h p ++ replicate k ended)
 ends s h p = reading-ends plain {P = λ i. Unit {0}} (record { keeps = λ i x u. tt; moves = λ i x u. plain-moves i u }) s h p tt
-
--- Any calls over any bytes, from any state: behind as many that were served as there are bytes, at most, they answer nothing but End.
-pub host-ends : (H : Host) (s : List ℕ) (b : H.State)
-    → (n : ℕ) × (n ≤ length s) × ((cs : List (Call H)) (k : ℕ) → Runs H s b cs → length (served H cs) ≡ n + k → Gets H (served H cs) (answers plain s n (H.held b) (H.place b) ++ replicate k ended))
-host-ends H s b =
-    let e = ends s (H.held b) (H.place b) in
-    (e.0, e.1, λ cs k g z. rw (z, e.2 k) at (runs-get H s b cs g))

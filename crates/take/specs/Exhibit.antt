@@ -22,7 +22,7 @@ use Rattle.ycbcr_image.specs.declared.Session.{Session}
 use Rattle.ycbcr_image.specs.Form as F
 use Rattle.ycbcr_image.specs.Form.{mono, in_plane, sub_width_c, sub_height_c, block_width, block_height, block_row_bytes}
 use Rattle.ycbcr_image.specs.Sizes.{sequence_of, div_ceil, next_multiple, pic_width_in_mbs, frame_height_in_mbs, visible_width, visible_height, padded_width, padded_height, padded_row_bytes}
-use Rattle.ycbcr_image.specs.Passed.{passed}
+use Rattle.ycbcr_image.proofs.Passed.{passed}
 use Rattle.ycbcr_image.specs.Refusals.{accepted, size_bad, depths_bad, four_bad, odd_bad, height_bad, session_bad, stride_bad, rows_bad, shape_refusal, plane_refusal, first, chroma_refusal, planes_refusal, refusal_of, refusal_next}
 use Rattle.slice.specs.Cat.{cat}
 use Rattle.slice.specs.Layout.{block_row, block, mb, mb_at, head, macroblock, slice_of}

@@ -1,34 +1,16 @@
 -- The words that the promises are said in (Promises), computed on the take of two pictures (Exhibit): where damage may begin, that a start code stands
 -- behind it, and what is answered about the unit that a cut falls in. A word that said less would fail here. And that there are calls as the promises for C
 -- have them (InC): a shoot, one of whose calls is refused, and readings with whatever planes. Assumes nothing.
-use Rattle.std.specs.Prelude.{◌≡◌, refl, List, [], ◌∷◌, ◌++◌, map, true, ℕ, ◌+◌, drop, replicate, get_or}
+use Rattle.std.specs.Prelude.{◌≡◌, refl, List, [], ◌∷◌, ◌++◌, map, ℕ, ◌+◌, replicate, get_or}
 use Rattle.std.proofs.Common.{sym, ap, ◌∙◌, append-nil, arith}
 use Rattle.std.proofs.lemmas.List.{length-replicate}
-use Rattle.nal_unit.specs.StartCode.{code}
-use Rattle.nal_unit.specs.Calls.{said, at}
-use Rattle.nal_unit.specs.Frame.{joined, place_by}
-use Rattle.nal_unit.specs.Cut.{kept}
-use Rattle.reader.specs.Judge.{refused}
+use Rattle.nal_unit.specs.Calls.{at}
 use Rattle.reader.specs.Read.{told, number_told, handed, laid}
 use Rattle.reelpony.specs.Numbers.{colour_known, depth_known, known, kind_of, bit_depth_of, plane, PictureIn, picture_in, held_of, words_of, start_number, start_length, start_buffer, start_words, next_number, next_length, next_buffer, StartsIn, NextsIn}
 use Rattle.reelpony.specs.Reading.{turn_in, told8, after8}
-use Rattle.take.specs.Take.{bytes_of, picture_units, units_of}
-use Rattle.take.specs.Broken.{cut_word}
-use Rattle.take.specs.Promises.{picture_code, cut_says}
-use Rattle.take.specs.Exhibit.{sets_flat, picture_flat, flat-sps, flat_pps, flat-unit, started, went, two, two_bytes, exhibited}
+use Rattle.take.specs.Exhibit.{sets_flat, picture_flat, started, went}
 use Rattle.take.specs.Host.{Planes, Call, Runs}
-use Rattle.take.specs.InC.{c, zeros, CallIn, ShootIn, nexts_in, file_in}
-
--- two parameter sets of 12 and 8 bytes, 00 00 00 01, the first picture; at 286 stands 00 00 00 01 again
-pub damage_there : (picture_code two ≡ 24) × (code (drop 287 (bytes_of two)) ≡ true)
-unfolding picture_code two joined code picture_flat
-damage_there = (rw (flat-sps, flat_pps) refl, rw two_bytes refl)
-
--- 3 and 23 bytes leave a unit no whole start code, 4 and 24 a bare one, 5 and 25 a part of a parameter set and of a picture; 552 leave all
-pub cut_there : (cut_says 3 two ≡ []) × (cut_says 4 two ≡ said 4 (refused 11) ∷ []) × (cut_says 5 two ≡ said 4 (refused 14) ∷ [])
-    × (cut_says 23 two ≡ []) × (cut_says 24 two ≡ said 24 (refused 11) ∷ []) × (cut_says 25 two ≡ said 24 (refused 17) ∷ []) × (cut_says 552 two ≡ [])
-unfolding two picture_units kept place_by cut_word
-cut_there = rw (exhibited.1, flat-sps, flat_pps, flat-unit 0x10 (omega arith)) (refl, refl, refl, refl, refl, refl, refl)
+use Rattle.take.specs.InC.{c, zeros, CallIn, ShootIn}
 
 -- ---- the C calls
 
@@ -49,29 +31,24 @@ refused_call = record { picture = picture_in 16 16 2 (plane [] 0 8) (plane [] 0 
 abbrev second_call : CallIn
 second_call = record { picture = flat_in 0x20; out = replicate 266 0; number = 0; len = 266; out' = picture_flat 0x20; session = flat_words }
 
-first_starts : StartsIn (flat_in 0x10) (replicate 286 0) zeros 0 286 (sets_flat ++ picture_flat 0x10) flat_words
+pub first_starts : StartsIn (flat_in 0x10) (replicate 286 0) zeros 0 286 (sets_flat ++ picture_flat 0x10) flat_words
 unfolding start_number start_length start_buffer start_words known colour_known depth_known kind_of bit_depth_of words_of
 first_starts =
     let r = started 0x10 (replicate 286 0) (omega arith) (omega (arith, length-replicate {A = ℕ} 286 0)) in
     record { number = rw r.0 refl; len = rw r.0 refl; bytes = sym (r.1 ∙ append-nil (sets_flat ++ picture_flat 0x10)); session = rw r.0 refl }
 
-second-follows : NextsIn (flat_in 0x20) (replicate 266 0) flat_words 0 266 (picture_flat 0x20) flat_words
+pub second-follows : NextsIn (flat_in 0x20) (replicate 266 0) flat_words 0 266 (picture_flat 0x20) flat_words
 unfolding next_number next_length next_buffer known colour_known depth_known kind_of bit_depth_of held_of
 second-follows =
     let r = went 0x20 (replicate 266 0) (omega arith) (omega (arith, length-replicate {A = ℕ} 266 0)) in
     record { number = rw r.0 refl; len = rw r.0 refl; bytes = sym (r.1 ∙ append-nil (picture_flat 0x20)); session = refl }
 
-refused-follows : NextsIn refused_call.picture [] flat_words 99 0 [] flat_words
+pub refused-follows : NextsIn refused_call.picture [] flat_words 99 0 [] flat_words
 unfolding next_number next_length next_buffer known colour_known
 refused-follows = record { number = refl; len = refl; bytes = refl; session = refl }
 
-abbrev shoot : ShootIn
+abbrev pub shoot : ShootIn
 shoot = record { before = zeros; first = first_call; others = refused_call ∷ second_call ∷ []; begun = first_starts; none = refl; went = (refused-follows, (second-follows, tt)) }
-
--- there is a shoot of C calls; its file is the take of two pictures
-pub shoot_there : (S : ShootIn) × (file_in S ≡ bytes_of two)
-unfolding file_in nexts_in picture_flat
-shoot_there = (shoot, rw two_bytes refl)
 
 -- and whatever planes a host lends, call by call, over whatever bytes, there are calls of the reader that do as their contract says
 pub runs_there : (s ws : List ℕ) (Ps : List Planes) → (cs : List (Call c)) × Runs c s ws cs × (map (λ (k : Call c). k.lent) cs ≡ Ps)

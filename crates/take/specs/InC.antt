@@ -8,8 +8,9 @@
 --     whole_way, numbers-way  files written by the C calls, read by the C calls
 --     refused_start, refused_next, refused-read     a refusal changes no lent byte and no session; of a reader's numbers only the place may be another
 -- Assumes nothing.
-use Rattle.std.specs.Prelude.{◌≡◌, refl, List, [], ◌∷◌, ◌++◌, map, Bool, true, false, cond, ℕ, ◌+◌, eqb, length, take, drop, replicate, get_or}
-use Rattle.std.proofs.Common.{sym, ap, ◌∙◌, arith, eqb-true}
+-- ---- the reader
+use Rattle.std.specs.Prelude.{◌≡◌, refl, List, [], ◌∷◌, ◌++◌, Bool, true, false, cond, ℕ, ◌+◌, eqb, length, take, get_or}
+use Rattle.std.proofs.Common.{sym, ap, ◌∙◌, arith}
 use Rattle.nal_unit.specs.Calls.{Say, ended, astray, said, at}
 use Rattle.ycbcr_image.specs.declared.Session.{Session}
 use Rattle.encoder.specs.declared.Encoded.{Encoded}
@@ -23,14 +24,9 @@ use Rattle.reader.specs.Read.{told, number_told}
 use Rattle.reelpony.specs.Numbers.{PictureIn, shot_in, known_in, held_of, words_after, start_number, start_length, start_buffer, start_words, next_number, next_length, next_buffer, StartsIn, NextsIn}
 use Rattle.reelpony.specs.Reading.{held_in, turn_in, told8, moved8, after8, ReadsIn}
 use Rattle.reelpony.specs.Words.{session-words, after_words}
-use Rattle.take.specs.Take.{Take, units_of, words_of, bytes_of}
-use Rattle.take.specs.Reading.{listed}
-use Rattle.take.specs.Host.{Host, Call, Runs, served, Gets, host-round_trip}
-use Rattle.take.specs.Numbers.{Sames, after, host-numbers}
+use Rattle.take.specs.Host.{Host}
 use Rattle.take.specs.Written as W
-use Rattle.take.specs.Written.{Wrote, Nexts, Shoot, nexts_file, file_of, take_of, take_shots, file_is}
-
--- ---- the reader
+use Rattle.take.specs.Written.{Wrote}
 
 -- what `reelpony_read` answers: its result, and the eight numbers of the answer
 pub record AnswerIn : Type 0 where
@@ -101,10 +97,10 @@ abbrev pub shots_in : ShootIn → List Shot
 shots_in S = shot_in S.first.picture ∷ next_shots S.others
 
 -- a call of C as the writer's own, in the session s
-abbrev wrote : Session → CallIn → Wrote
+abbrev pub wrote : Session → CallIn → Wrote
 wrote s k = record { shot = shot_in k.picture; out = k.out; session = s; len = k.len }
 
-unfoldable wrotes : Session → List CallIn → List Wrote
+unfoldable pub wrotes : Session → List CallIn → List Wrote
 wrotes s [] = []
 wrotes s (k ∷ ks) = cond (eqb k.number 0) (wrote s k ∷ wrotes s ks) (wrotes s ks)
 
@@ -118,10 +114,10 @@ known-zero true n e = refl
 known-zero false n e = absurd (omega arith)
 
 -- what an accepted start call of C is: the writer's own, whose session it leaves in the numbers
-record Begun (p : PictureIn) (d : List ℕ) (l : ℕ) (d' ws' : List ℕ) : Type 0 where
-  writes : start_of (shot_in p) d ≡ Written (session_of (image_of (shot_in p))) l
-  bytes : d' ≡ start_out (shot_in p) d
-  holds : held_of ws' ≡ session_of (image_of (shot_in p))
+pub record Begun (p : PictureIn) (d : List ℕ) (l : ℕ) (d' ws' : List ℕ) : Type 0 where
+  pub writes : start_of (shot_in p) d ≡ Written (session_of (image_of (shot_in p))) l
+  pub bytes : d' ≡ start_out (shot_in p) d
+  pub holds : held_of ws' ≡ session_of (image_of (shot_in p))
 
 begun_in : (p : PictureIn) (d ws : List ℕ) {l : ℕ} {d' ws' : List ℕ} → StartsIn p d ws 0 l d' ws' → Begun p d l d' ws'
 unfolding start_number start_length start_buffer start_words start_of
@@ -131,42 +127,20 @@ begun_in p d ws r =
     record { writes = a; bytes = rw k at r.bytes; holds = ap held_of ((rw k at r.session) ∙ ap (λ (x : Encoded). words_after x ws) a) ∙ session-words (session_of (image_of (shot_in p))) }
 
 -- an accepted next call, where the numbers say the session s
-record Went (s : Session) (p : PictureIn) (d : List ℕ) (l : ℕ) (d' : List ℕ) : Type 0 where
-  writes : next_of s (shot_in p) d ≡ Written s l
-  bytes : d' ≡ next_out s (shot_in p) d
+pub record Went (s : Session) (p : PictureIn) (d : List ℕ) (l : ℕ) (d' : List ℕ) : Type 0 where
+  pub writes : next_of s (shot_in p) d ≡ Written s l
+  pub bytes : d' ≡ next_out s (shot_in p) d
 
-went_in : (s : Session) (p : PictureIn) (d ws : List ℕ) {l : ℕ} {d' ws' : List ℕ} → held_of ws ≡ s → NextsIn p d ws 0 l d' ws' → Went s p d l d'
+pub went_in : (s : Session) (p : PictureIn) (d ws : List ℕ) {l : ℕ} {d' ws' : List ℕ} → held_of ws ≡ s → NextsIn p d ws 0 l d' ws' → Went s p d l d'
 unfolding next_number next_length next_buffer next_of
 went_in s p d ws e r =
     let k = known-zero (known_in p) _ r.number in
     record { writes = zero_is _ _ _ d (sym (rw (k, e) at r.number)) (rw (k, e) at r.len); bytes = rw (k, e) at r.bytes }
 
--- the next calls that were accepted
-nexts_in_lem : (s : Session) (ws : List ℕ) (ks : List CallIn) → held_of ws ≡ s → NextsBehind ws ks → Nexts s (wrotes s ks) × (nexts_in ks ≡ nexts_file s (wrotes s ks))
-unfolding wrotes nexts_in nexts_file
-nexts_in_lem s ws [] e f = (tt, refl)
-nexts_in_lem s ws (k ∷ ks) e f = go (eqb k.number 0) refl (nexts_in_lem s k.session ks (ap held_of f.0.session ∙ e) f.1)
-  where
-    go : (b : Bool) → eqb k.number 0 ≡ b → Nexts s (wrotes s ks) × (nexts_in ks ≡ nexts_file s (wrotes s ks))
-        → Nexts s (wrotes s (k ∷ ks)) × (nexts_in (k ∷ ks) ≡ nexts_file s (wrotes s (k ∷ ks)))
-    go true i g =
-        let w = went_in s k.picture k.out ws e (rw (eqb-true k.number 0 i) at f.0) in
-        rw i ((w.writes, g.0), rw (w.bytes, g.1) refl)
-    go false i g = rw i g
-
-began : (S : ShootIn) → Begun S.first.picture S.first.out S.first.len S.first.out' S.first.session
+pub began : (S : ShootIn) → Begun S.first.picture S.first.out S.first.len S.first.out' S.first.session
 began S = begun_in S.first.picture S.first.out S.before (rw S.none at S.begun)
 
-shoot_of : ShootIn → Shoot
-shoot_of S =
-    let s = session_of (image_of (shot_in S.first.picture)) in
-    let b = began S in
-    record { first = wrote s S.first; others = wrotes s S.others; begun = b.writes; went = (nexts_in_lem s S.first.session S.others b.holds S.went).0 }
-
-pub take_in : ShootIn → Take
-take_in S = take_of (shoot_of S)
-
-nexts_shots : (s : Session) (ks : List CallIn) → W.shots_in (wrotes s ks) ≡ next_shots ks
+pub nexts_shots : (s : Session) (ks : List CallIn) → W.shots_in (wrotes s ks) ≡ next_shots ks
 unfolding wrotes next_shots
 nexts_shots s [] = refl
 nexts_shots s (k ∷ ks) = go (eqb k.number 0) refl (nexts_shots s ks)
@@ -175,32 +149,7 @@ nexts_shots s (k ∷ ks) = go (eqb k.number 0) refl (nexts_shots s ks)
     go true i e = rw (i, e) refl
     go false i e = rw (i, e) refl
 
-pub take_in_lem : (S : ShootIn) → (take_in S).first ∷ (take_in S).others ≡ shots_in S
-unfolding take_in shoot_of
-take_in_lem S = rw ((take_shots (shoot_of S)).0, (take_shots (shoot_of S)).1, nexts_shots (session_of (image_of (shot_in S.first.picture))) S.others) refl
-
--- What the C calls wrote is a take's bytes: whatever the promises say of a take, they say of this file.
-pub file_in_lem : (S : ShootIn) → file_in S ≡ bytes_of (take_in S)
-unfolding file_in take_in shoot_of file_of
-file_in_lem S =
-    let s = session_of (image_of (shot_in S.first.picture)) in
-    let b = began S in
-    let n = nexts_in_lem s S.first.session S.others b.holds S.went in
-    let e : file_in S ≡ file_of (shoot_of S) = rw (b.bytes, n.1) refl in
-    e ∙ file_is (shoot_of S)
-
 -- ---- the whole way
-
--- Files written by the C calls, read by the C calls: they answer the size and kind, the picture parameter set and each picture that was accepted, in order and at
--- their offsets, with its visible samples in the planes, stored tight; then End.
-pub whole_way : (S : ShootIn) (cs : List (Call c)) (n : ℕ) → Runs c (file_in S) zeros cs → length (served c cs) ≡ length (units_of (take_in S)) + n
-    → Gets c (served c cs) (listed 0 (units_of (take_in S)) (words_of (take_in S)) ++ replicate n ended)
-whole_way S cs n g = host-round_trip c (take_in S) cs n (rw (file_in_lem S) at g)
-
--- And the planes have the numbers that were lent, at each visible row and column.
-pub numbers-way : (S : ShootIn) (cs : List (Call c)) → Runs c (file_in S) zeros cs → length (served c cs) ≡ length (units_of (take_in S))
-    → Sames (shots_in S) (map after (drop 2 (served c cs)))
-numbers-way S cs g m = rw (← take_in_lem S) (host-numbers c (take_in S) cs (rw (file_in_lem S) at g) m)
 
 -- ---- refusals
 

@@ -3,8 +3,8 @@
 --     numbers        so are those of every picture of every take
 --     host-numbers   and so are the planes that a host has after its calls, whatever they held before
 -- Assumes nothing.
-use Rattle.std.specs.Prelude.{◌≡◌, refl, List, [], ◌∷◌, ◌++◌, map, ℕ, zero, suc, ◌+◌, ◌<◌, length, drop, replicate}
-use Rattle.std.proofs.Common.{sym, ap, ◌∙◌, append-nil, add-zero, arith}
+use Rattle.std.specs.Prelude.{◌≡◌, refl, List, [], ◌∷◌, ◌++◌, map, ℕ, zero, suc, ◌+◌, ◌<◌, length, replicate}
+use Rattle.std.proofs.Common.{ap, ◌∙◌, append-nil, arith}
 use Rattle.nal_unit.specs.Calls.{ended, answers}
 use Rattle.slice.specs.Picture.{lend_at}
 use Rattle.slice.specs.Sample.{sample_in, tight, visible_front}
@@ -14,10 +14,10 @@ use Rattle.encoder.specs.Shot.{Shot, lends_of, sequence_in, shot_whole}
 use Rattle.encoder.specs.Units.{picture_unit}
 use Rattle.reader.specs.Judge.{nothing, Samples, Word, sps, pps, picture}
 use Rattle.reader.specs.Enough.{plain}
-use Rattle.take.specs.Take.{Take, size_of, bytes_of, units_of, words_of, samples_of, picture_units, picture_words, Framed, Frames, frames}
+use Rattle.take.specs.Take.{Take, size_of, bytes_of, units_of, samples_of, picture_units, picture_words, Framed, Frames, frames}
 use Rattle.take.specs.Reading.{listed}
 use Rattle.take.specs.Promises.{round_trip}
-use Rattle.take.specs.Host.{Host, Call, Runs, served, Gets, host-round_trip}
+use Rattle.take.specs.Host.{Host, Call, Gets}
 
 -- plane p of the samples handed out
 abbrev pub samples_at : Samples → ℕ → List ℕ
@@ -76,7 +76,7 @@ numbers T k =
 abbrev pub after : {H : Host} → Call H → Samples
 after c = c.planes
 
-after_same : (H : Host) (q : Sequence) (p : ℕ) (ss : List Shot) (cs : List (Call H)) → Frames q ss → Gets H cs (listed p (picture_units ss) (picture_words ss)) → Sames ss (map after cs)
+pub after_same : (H : Host) (q : Sequence) (p : ℕ) (ss : List Shot) (cs : List (Call H)) → Frames q ss → Gets H cs (listed p (picture_units ss) (picture_words ss)) → Sames ss (map after cs)
 unfolding listed picture_units picture_words
 after_same H q p [] [] f g = tt
 after_same H q p [] (c ∷ cs) f g = absurd g
@@ -85,15 +85,3 @@ after_same H q p (s ∷ ss) (c ∷ cs) f g = (
   rw (g.0.in_y, g.0.in_cb, g.0.in_cr) (one_same s f.0 _ _ _),
   after_same H q (p + 4 + length (picture_unit (sequence_in s) (lends_of s))) ss cs f.1 g.1,
 )
-
--- Any calls over an accepted take, from its first byte with nothing held, of which one for each of its units was served: behind the first two of these, which
--- answer the parameter sets, each leaves in the planes the numbers of the next picture, at each visible row and column.
-pub host-numbers : (H : Host) (T : Take) (cs : List (Call H)) → Runs H (bytes_of T) H.fresh cs
-    → length (served H cs) ≡ length (units_of T) → Sames (T.first ∷ T.others) (map after (drop 2 (served H cs)))
-unfolding listed
-host-numbers H T cs g m = go (served H cs) (rw (append-nil (listed 0 (units_of T) (words_of T))) at (host-round_trip H T cs 0 g (m ∙ sym (add-zero (length (units_of T))))))
-  where
-    go : (cs : List (Call H)) → Gets H cs (listed 0 (units_of T) (words_of T)) → Sames (T.first ∷ T.others) (map after (drop 2 cs))
-    go [] h = absurd h
-    go (a ∷ []) h = absurd h.1
-    go (a ∷ b ∷ cs) h = after_same H (size_of T) _ (T.first ∷ T.others) cs (frames T) h.1.1

@@ -6,24 +6,19 @@
 --                    as in the undamaged take
 --     picture_code, replaced     the place behind the first picture's start code; bytes of which a stretch is replaced
 -- Assumes nothing.
-use Rattle.std.specs.Prelude.{◌≡◌, refl, List, [], ◌∷◌, ◌++◌, map, true, cond, ℕ, suc, ◌+◌, ◌-◌, ◌≤◌, ◌<◌, leb, length, take, drop, replicate}
-use Rattle.std.proofs.Common.{sym, ap, ◌∙◌, arith, le-leb, length-append, take-append-drop, drop-drop, length-take-le}
-use Rattle.std.proofs.lemmas.Bool.{lt-leb}
-use Rattle.lists.specs.Part.{part, part_length, part_rest}
-use Rattle.nal_unit.specs.StartCode.{start_code, code, code_fits}
+use Rattle.std.specs.Prelude.{◌≡◌, refl, List, [], ◌∷◌, ◌++◌, map, cond, ℕ, ◌+◌, ◌-◌, ◌≤◌, leb, length, take, drop, replicate}
+use Rattle.std.proofs.Common.{ap, ◌∙◌, arith, length-append}
+use Rattle.nal_unit.specs.StartCode.{start_code, code}
 use Rattle.nal_unit.specs.Calls.{Verdict, Say, ended, said, answers}
-use Rattle.nal_unit.specs.Frame.{joined, reads, says, held_by, place_by, place-joined, joined-append, joined-tail}
-use Rattle.nal_unit.specs.Cut as C
-use Rattle.nal_unit.specs.Cut.{kept, broken, cut-exact, all, within, told, Moves}
-use Rattle.nal_unit.specs.Damage.{moved, front, damage_reads}
+use Rattle.nal_unit.specs.Frame.{joined, reads, says, held_by, place_by, joined-append, joined-tail}
+use Rattle.nal_unit.specs.Cut.{kept, broken, told, Moves}
 use Rattle.encoder.specs.Shot.{lends_of}
 use Rattle.encoder.specs.Units.{sps_unit, pps_unit, picture_unit}
 use Rattle.reader.specs.Judge.{Held, nothing, Word}
 use Rattle.reader.specs.Enough.{plain}
-use Rattle.take.specs.Judged.{having}
 use Rattle.take.specs.Take.{Take, size_of, bytes_of, picture_units, units_of, words_of, bytes-units}
-use Rattle.take.specs.Broken.{cut_word, broken-said}
-use Rattle.take.specs.Reading.{listed, fits, full, take-goes, take-said, sets-goes, sets-held}
+use Rattle.take.specs.Broken.{cut_word}
+use Rattle.take.specs.Reading.{listed, take-goes, take-said}
 
 -- Reading an accepted take from its first byte with nothing held answers its size and kind, its picture parameter set, and each picture with its visible
 -- samples, in order and at their offsets; then End, however often it is asked for.
@@ -35,7 +30,7 @@ round_trip T k =
 -- ---- a cut
 
 -- what is answered about the units kept is what is answered about them in the whole take
-kept-said : (judge : Held → List ℕ → Verdict Held Word) (h : Held) (p : ℕ) (K R : List (List ℕ)) (ws : List Word)
+pub kept-said : (judge : Held → List ℕ → Verdict Held Word) (h : Held) (p : ℕ) (K R : List (List ℕ)) (ws : List Word)
     → says judge h p (K ++ R) ≡ listed p (K ++ R) ws → says judge h p K ≡ listed p K ws
 unfolding says listed
 kept-said judge h p [] R ws e = refl
@@ -46,7 +41,7 @@ kept-said judge h p (u ∷ K) R (w ∷ ws) e =
     rw (x, kept-said judge (judge h u).held (p + 4 + length u) K R ws y) refl
 
 -- the frame of a unit behind others
-frame_behind : (K : List (List ℕ)) (v : List ℕ) (ws : List (List ℕ)) → length (joined K []) + (4 + length v) ≤ length (joined (K ++ (v ∷ ws)) [])
+pub frame_behind : (K : List (List ℕ)) (v : List ℕ) (ws : List (List ℕ)) → length (joined K []) + (4 + length v) ≤ length (joined (K ++ (v ∷ ws)) [])
 unfolding joined
 frame_behind K v ws =
     rw (joined-append K (v ∷ ws) [], joined-tail K (0 ∷ start_code (v ++ joined ws [])), length-append (joined K []) (0 ∷ start_code (v ++ joined ws [])))
@@ -57,42 +52,10 @@ abbrev pub cut_says : ℕ → Take → List (Say Word)
 cut_says n T = cond (leb (length (bytes_of T)) n) [] (map (said (place_by 0 (kept n (units_of T)) + 4)) (cut_word (length (kept n (units_of T))) (n - place_by 0 (kept n (units_of T)))))
 
 -- the answers about the units kept, and about the unit that the cut falls in
-record Told (T : Take) (n : ℕ) : Type 0 where
-  moves : Moves plain (held_by plain nothing (kept n (units_of T))) (broken n (units_of T))
-  is : told plain n nothing (units_of T) ≡ cut_says n T
-  said : says plain nothing 0 (kept n (units_of T)) ≡ listed 0 (kept n (units_of T)) (words_of T)
-
-cut-told : (T : Take) (n : ℕ) → C.Cut n (units_of T) (kept n (units_of T)) (broken n (units_of T)) → Told T n
-unfolding C.tell
-cut-told T n (all a b c) =
-    record {
-      moves = rw b tt;
-      is = rw (b, le-leb (length (bytes_of T)) n (omega (arith, ap length (bytes-units T)))) refl;
-      said = rw a (take-said T 0);
-    }
-cut-told T n (within v ws r a b c d) =
-    let K = kept n (units_of T) in
-    let p = place-joined 0 K in
-    let s = broken-said T K v ws (place_by 0 K) r a c in
-    let m : n - place_by 0 K ≡ r = omega arith in
-    let l : n < length (bytes_of T) = omega (arith, ap length (bytes-units T), ap (λ (us : List (List ℕ)). length (joined us [])) a, frame_behind K v ws) in
-    record {
-      moves = rw d s.0;
-      is = rw (d, lt-leb (length (bytes_of T)) n l, m) s.1;
-      said = kept-said plain nothing 0 K (v ∷ ws) (words_of T) (rw (← a) (take-said T 0));
-    }
-
--- Cut a take after any byte, n of them left: the reader answers exactly the units that are whole within n, in order; then, exactly if the cut leaves a
--- whole start code of the next unit, one refusal (11 for a bare start code, 14 in a parameter set, 17 in a picture); then End, however often it is
--- asked for.
-pub cut : (T : Take) (n k : ℕ)
-    → answers plain (take n (bytes_of T)) (length (kept n (units_of T)) + (length (cut_says n T) + k)) nothing 0
-    ≡ listed 0 (kept n (units_of T)) (words_of T) ++ (cut_says n T ++ replicate k ended)
-cut T n k =
-    let us = units_of T in
-    let c = cut-told T n (cut-exact n us) in
-    let r = C.cut plain n k nothing us (take-goes T) c.moves in
-    rw (← bytes-units T, c.is, c.said) at r
+pub record Told (T : Take) (n : ℕ) : Type 0 where
+  pub moves : Moves plain (held_by plain nothing (kept n (units_of T))) (broken n (units_of T))
+  pub is : told plain n nothing (units_of T) ≡ cut_says n T
+  pub said : says plain nothing 0 (kept n (units_of T)) ≡ listed 0 (kept n (units_of T)) (words_of T)
 
 -- ---- damage
 
@@ -105,31 +68,6 @@ unfoldable pub replaced : List ℕ → ℕ → ℕ → List ℕ → List ℕ
 replaced s i j m = take i s ++ (m ++ drop j s)
 
 -- a take by its parameter sets and the bytes behind the first picture's start code
-first_coded : (T : Take) → bytes_of T ≡ joined (sps_unit (size_of T) ∷ pps_unit ∷ []) (0 ∷ start_code (picture_unit (size_of T) (lends_of T.first) ++ joined (picture_units T.others) []))
+pub first_coded : (T : Take) → bytes_of T ≡ joined (sps_unit (size_of T) ∷ pps_unit ∷ []) (0 ∷ start_code (picture_unit (size_of T) (lends_of T.first) ++ joined (picture_units T.others) []))
 unfolding picture_units joined
 first_coded T = bytes-units T ∙ joined-append (sps_unit (size_of T) ∷ pps_unit ∷ []) (picture_unit (size_of T) (lends_of T.first) ∷ picture_units T.others) []
-
--- Replace any stretch of a take behind the first picture's start code, the bytes from i up to j, by anything, m; and take any start code that stands wholly
--- behind it, at k. The reader, from the first byte with nothing held, arrives there after some calls, n; and from there on it answers, however often it is
--- called, what it answers there in the undamaged take, with the offsets moved by the change in length.
-pub damage : (T : Take) (i j k : ℕ) (m : List ℕ) → picture_code T ≤ i → i ≤ j → j ≤ k → code (drop k (bytes_of T)) ≡ true
-    → (n : ℕ) × ((c : ℕ) → answers plain (replaced (bytes_of T) i j m) (n + c) nothing 0
-    ≡ answers plain (replaced (bytes_of T) i j m) n nothing 0 ++ map (moved (j - i) (length m)) (answers plain (bytes_of T) c (having (size_of T) true) k))
-unfolding replaced picture_code picture_units
-damage T i j k m l a b c =
-    let s = bytes_of T in
-    let h = sets-held T [] in
-    let sets = sps_unit (size_of T) ∷ pps_unit ∷ [] in
-    let f = front sets (picture_unit (size_of T) (lends_of T.first) ++ joined (picture_units T.others) []) i (omega (arith, place-joined 0 sets)) in
-    let g : take i s ≡ joined sets (0 ∷ start_code f.0) = ap (λ (y : List ℕ). take i y) (first_coded T) ∙ f.1 in
-    let long : k + 3 ≤ length s = code_fits s k c in
-    let t : length (take i s) ≡ i = length-take-le i s (omega arith) in
-    let d : length (part s i (j - i)) ≡ j - i = part_length s i (j - i) (omega arith) in
-    let x : i + (j - i) ≡ j = omega arith in
-    let y : j + (k - j) ≡ k = omega arith in
-    let z : i + (j - i + (k - j)) ≡ k = omega arith in
-    let v : drop i s ≡ part s i (j - i) ++ drop j s = rw x at (part_rest s i (j - i)) in
-    let w : take i s ++ (part s i (j - i) ++ drop j s) ≡ s = rw v at (take-append-drop i s) in
-    let o : code (drop (k - j) (drop j s)) ≡ true = rw (drop-drop (k - j) j s) (rw y c) in
-    let r = damage_reads plain sets (take i s) f.0 (part s i (j - i)) m (drop j s) nothing (k - j) g (sets-goes T [] tt) (rw h (full (size_of T) (fits T))) o in
-    rw (t, d, w, z, h) at r

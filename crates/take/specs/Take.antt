@@ -11,7 +11,8 @@ use Rattle.std.proofs.Common.{sym, ◌∙◌}
 use Rattle.nal_unit.specs.Frame.{joined, joined-append, joined-tail}
 use Rattle.ycbcr_image.specs.Sizes.{Sequence}
 use Rattle.ycbcr_image.specs.Refusals.{refusal_of, refusal_next}
-use Rattle.ycbcr_image.specs.Passed.{Passed, passed, passed_next}
+use Rattle.ycbcr_image.specs.Passed.{Passed}
+use Rattle.ycbcr_image.proofs.Passed.{passed, passed_next}
 use Rattle.encoder.specs.Units.{sps_unit, pps_unit, picture_unit, start_units, start_bytes, next_bytes}
 use Rattle.encoder.specs.Shot.{Shot, image_of, lends_of, sequence_in}
 use Rattle.reader.specs.Judge.{Samples, Word, sps, pps, picture}

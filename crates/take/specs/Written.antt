@@ -8,7 +8,7 @@ use Rattle.std.proofs.Common.{sym, ap, ◌∙◌, arith, take_at}
 use Rattle.ycbcr_image.specs.declared.Session.{Session}
 use Rattle.ycbcr_image.specs.Sizes.{Sequence, sequence_of}
 use Rattle.ycbcr_image.specs.Refusals.{session_of, refusal_of, refusal_next}
-use Rattle.ycbcr_image.specs.Passed.{passed_next}
+use Rattle.ycbcr_image.proofs.Passed.{passed_next}
 use Rattle.encoder.specs.declared.Encoded.{Encoded}
 use Rattle.encoder.specs.declared.Encoded.TheVariants.{Written}
 use Rattle.encoder.specs.Shot.{Shot, image_of, lends_of, sequence_in}

@@ -15,10 +15,9 @@ use Rattle.ycbcr_image.specs.declared.BitDepth.{BitDepth}
 use Rattle.ycbcr_image.specs.declared.BitDepth.TheVariants.{Depth8, Depth12}
 use Rattle.ycbcr_image.specs.declared.Kind.{Kind}
 use Rattle.ycbcr_image.specs.declared.Kind.TheVariants.{Mono, Colour}
-use Rattle.ycbcr_image.specs.declared.Session.{Session}
 use Rattle.lists.specs.Test.{or_left, or_right, and_left, and_right}
 use Rattle.ycbcr_image.specs.Form.{Form, form_of, mono, planes, in_plane, bytes_of, sub_width_c, sub_height_c, block_width, block_height, block_row_bytes, block_bytes, mb_bytes, crop_unit_x, crop_unit_y}
-use Rattle.ycbcr_image.specs.Sizes.{Sequence, sequence_of, div_ceil, next_multiple, pic_width_in_mbs, frame_height_in_mbs, visible_width, visible_height, padded_width, padded_height, visible_row_bytes, padded_row_bytes, tight_length}
+use Rattle.ycbcr_image.specs.Sizes.{Sequence, div_ceil, next_multiple, pic_width_in_mbs, frame_height_in_mbs, visible_width, visible_height, padded_width, padded_height, visible_row_bytes, padded_row_bytes, tight_length}
 use Rattle.ycbcr_image.specs.Refusals.{size_bad, four_bad, odd_bad, height_bad, accepted}
 
 -- plane p, be it there or not; in monochrome Cb and Cr are empty
@@ -105,10 +104,10 @@ sound q t =
 packed : (n : ℕ) → n % 2 ≡ 0 → n * 12 / 8 * 8 ≡ n * 12
 packed n e = let k : n ≡ n / 2 * 2 = omega arith in rw k (omega arith)
 
-abbrev of : Kind → BitDepth → ℕ → ℕ → Sequence
+abbrev pub of : Kind → BitDepth → ℕ → ℕ → Sequence
 of k d w h = record { width = w; height = h; form = form_of k d }
 
-in_plane_lem : (k : Kind) (d : BitDepth) (w h p : ℕ) → Sound (of k d w h) → FinePlane (of k d w h) p
+pub in_plane_lem : (k : Kind) (d : BitDepth) (w h p : ℕ) → Sound (of k d w h) → FinePlane (of k d w h) p
 unfolding mono in_plane sub_width_c sub_height_c div_ceil next_multiple pic_width_in_mbs frame_height_in_mbs visible_width visible_height padded_width padded_height visible_row_bytes padded_row_bytes block_width block_height block_row_bytes bytes_of
 in_plane_lem Mono Depth8 w h zero g = omega arith
 in_plane_lem Mono Depth12 w h zero g = omega (arith, packed w (g.odd refl))
@@ -122,7 +121,7 @@ in_plane_lem Colour Depth12 w h (suc p) g =
     let even : w / 2 % 2 ≡ 0 = omega arith in
     omega (arith, g.high refl, packed (w / 2) even)
 
-in_present : (k : Kind) (d : BitDepth) (w h p : ℕ) → Sound (of k d w h) → p < planes (form_of k d) → Present (of k d w h) p
+pub in_present : (k : Kind) (d : BitDepth) (w h p : ℕ) → Sound (of k d w h) → p < planes (form_of k d) → Present (of k d w h) p
 unfolding mono planes in_plane sub_width_c sub_height_c visible_width visible_height visible_row_bytes block_width block_height block_row_bytes bytes_of
 in_present Mono Depth8 w h zero g l = omega arith
 in_present Mono Depth12 w h zero g l = omega arith
@@ -138,30 +137,6 @@ known Mono Depth8 = record { chroma = omega arith; depth = inl refl; mb_most = o
 known Mono Depth12 = record { chroma = omega arith; depth = inr refl; mb_most = omega arith; mb-blocks = omega arith }
 known Colour Depth8 = record { chroma = omega arith; depth = inl refl; mb_most = omega arith; mb-blocks = omega arith }
 known Colour Depth12 = record { chroma = omega arith; depth = inr refl; mb_most = omega arith; mb-blocks = omega arith }
-
-units : (k : Kind) (d : BitDepth) (w h : ℕ) → Sound (of k d w h) → Units (of k d w h)
-unfolding mono in_plane sub_width_c sub_height_c div_ceil next_multiple visible_width visible_height padded_width padded_height crop_unit_x crop_unit_y block_width block_height
-units Mono d w h g = omega arith
-units Colour d w h g = omega (arith, g.odd refl, g.high refl)
-
-pub fine : (s : Session) → accepted (sequence_of s) ≡ true → Fine (sequence_of s)
-unfolding div_ceil next_multiple pic_width_in_mbs frame_height_in_mbs
-fine s t =
-    let g = sound _ t in
-    record {
-      known = known s.kind s.depth;
-      width_low = g.width_low;
-      width-high = g.width-high;
-      height-low = g.height-low;
-      height-high = g.height-high;
-      across-low = omega arith;
-      across-high = omega arith;
-      down_low = omega arith;
-      down_high = omega arith;
-      units = units s.kind s.depth s.width s.height g;
-      plane = λ p. in_plane_lem s.kind s.depth s.width s.height p g;
-      present = λ p. in_present s.kind s.depth s.width s.height p g;
-    }
 
 -- a plane's visible rows, stored tight
 pub tight_most : {q : Sequence} → Fine q → (p : ℕ) → tight_length q p ≤ 402653184

@@ -1,15 +1,13 @@
 -- The refusals computed on worked pictures: 01's sizes at the limits, a plane one byte short, and a picture for each row of the table and for its order.
 -- Assumes nothing.
-use Rattle.std.specs.Prelude.{◌≡◌, refl, ℕ}
+use Rattle.std.specs.Prelude.{◌≡◌, ℕ}
 use Rattle.ycbcr_image.specs.declared.BitDepth.{BitDepth}
 use Rattle.ycbcr_image.specs.declared.BitDepth.TheVariants.{Depth8, Depth12}
 use Rattle.ycbcr_image.specs.declared.DataPlane.{DataPlane}
 use Rattle.ycbcr_image.specs.declared.Kind.{Kind}
 use Rattle.ycbcr_image.specs.declared.Kind.TheVariants.{Mono, Colour}
 use Rattle.ycbcr_image.specs.declared.YCbCrImage.{YCbCrImage}
-use Rattle.ycbcr_image.specs.Form.{mono, in_plane, bytes_of, sub_width_c, sub_height_c, block_width, block_height}
-use Rattle.ycbcr_image.specs.Sizes.{div_ceil, next_multiple, visible_width, visible_height, padded_width, padded_height, padded_row_bytes}
-use Rattle.ycbcr_image.specs.Refusals.{of_picture, size_bad, depths_bad, four_bad, odd_bad, height_bad, session_bad, stride_bad, rows_bad, shape_refusal, plane_refusal, first, chroma_refusal, planes_refusal, refusal_of, refusal_next}
+use Rattle.ycbcr_image.specs.Refusals.{of_picture, refusal_of, refusal_next}
 
 abbrev plane : ℕ → ℕ → BitDepth → DataPlane
 plane l s d = record { len = l; stride = s; depth = d }
@@ -37,26 +35,3 @@ pub record Worked : Type 0 where
   pub byte_short : refusal_of (image Mono Depth8 16 16 16 255 0) ≡ 8
   pub row_short : refusal_of (image Mono Depth8 16 15 16 240 0) ≡ 8
   pub cb_first : refusal_of (record { width = 16; height = 16; kind = Colour; y = plane 256 16 Depth8; cb = plane 63 8 Depth8; cr = plane 64 7 Depth8 }) ≡ 8
-
-pub worked : Worked
-unfolding refusal_of refusal_next planes_refusal chroma_refusal first plane_refusal shape_refusal size_bad depths_bad four_bad odd_bad height_bad session_bad stride_bad rows_bad padded_width padded_height padded_row_bytes visible_width visible_height next_multiple div_ceil block_width block_height sub_width_c sub_height_c bytes_of in_plane mono
-worked = record {
-  largest = refl;
-  too_wide = refl;
-  no_height = refl;
-  mixed = refl;
-  colour_12_wide_6 = refl;
-  colour_12_wide_4 = refl;
-  colour_12_wide_5 = refl;
-  colour_8_wide_15 = refl;
-  mono_8_wide_1 = refl;
-  colour-high_17 = refl;
-  colour-high_16 = refl;
-  next_other-kind = refl;
-  next_other-depth = refl;
-  stride_of_visible = refl;
-  stride_none = refl;
-  byte_short = refl;
-  row_short = refl;
-  cb_first = refl;
-}

@@ -7,8 +7,8 @@
 --     mono-alone                   monochrome looks at no chroma plane
 --     stride-zero                  stride 0 falls to 7
 -- Assumes nothing.
-use Rattle.std.specs.Prelude.{◌≡◌, refl, Bool, true, false, cond, ◌||◌, ℕ, zero, suc, ◌+◌, ◌*◌, ◌/◌, ◌≤◌, ◌<◌}
-use Rattle.std.proofs.Common.{sym, ◌∙◌, mul-le-mul_right, div-mul-le_self, suc-mul, mul_assoc, arith, ltb-false, eqb-true, lt-ltb, ne_eqb}
+use Rattle.std.specs.Prelude.{◌≡◌, refl, Bool, true, false, cond, ◌||◌, ℕ, zero, suc, ◌+◌, ◌*◌, ◌≤◌, ◌<◌}
+use Rattle.std.proofs.Common.{sym, ◌∙◌, mul-le-mul_right, suc-mul, mul_assoc, arith, eqb-true, lt-ltb, ne_eqb}
 use Rattle.std.proofs.lemmas.Bool.{not-false}
 use Rattle.ycbcr_image.specs.declared.DataPlane.{DataPlane}
 use Rattle.ycbcr_image.specs.declared.YCbCrImage.{YCbCrImage}
@@ -16,8 +16,8 @@ use Rattle.ycbcr_image.specs.declared.Kind.TheVariants.{Mono}
 use Rattle.lists.specs.Test.{or_left, or_right}
 use Rattle.ycbcr_image.specs.Form.{mono, planes, block_height, block_row_bytes}
 use Rattle.ycbcr_image.specs.Sizes.{Sequence, pic_width_in_mbs, frame_height_in_mbs, padded_row_bytes, padded_height}
-use Rattle.ycbcr_image.specs.Refusals.{plane_of, session_of, of_picture, size_bad, depths_bad, four_bad, odd_bad, height_bad, session_bad, accepted, stride_bad, rows_bad, shape_refusal, plane_refusal, first, chroma_refusal, planes_refusal, differ, refusal_of, refusal_next}
-use Rattle.ycbcr_image.specs.Accepted.{Fine, fine, row_some}
+use Rattle.ycbcr_image.specs.Refusals.{plane_of, of_picture, size_bad, depths_bad, four_bad, odd_bad, height_bad, session_bad, accepted, stride_bad, shape_refusal, first, planes_refusal, differ, refusal_of, refusal_next}
+use Rattle.ycbcr_image.specs.Accepted.{Fine, row_some}
 
 pub first_none : (n later : ℕ) → n ≡ 0 → first n later ≡ later
 unfolding first
@@ -27,13 +27,13 @@ pub first_some : (n later : ℕ) → (n ≡ 0 → ⊥) → first n later ≡ n
 unfolding first
 first_some n later h = rw (ne_eqb n 0 h) refl
 
-neither : (n later : ℕ) → first n later ≡ 0 → (n ≡ 0) × (later ≡ 0)
+pub neither : (n later : ℕ) → first n later ≡ 0 → (n ≡ 0) × (later ≡ 0)
 unfolding first
 neither zero later e = (refl, e)
 neither (suc n) later e = absurd (omega (arith, sym (first_some (suc n) later (λ z. omega arith)) ∙ e))
 
 -- a row of the table that gives no number does not apply, and the rows behind it give none
-row_none : (b : Bool) (n later : ℕ) → cond b (suc n) later ≡ 0 → (b ≡ false) × (later ≡ 0)
+pub row_none : (b : Bool) (n later : ℕ) → cond b (suc n) later ≡ 0 → (b ≡ false) × (later ≡ 0)
 row_none true n later e = absurd (omega arith)
 row_none false n later e = (refl, e)
 
@@ -51,17 +51,6 @@ shape-accepted i e =
 pub record Lent (q : Sequence) (p : ℕ) (a : DataPlane) : Type 0 where
   pub row : padded_row_bytes q p ≤ a.stride
   pub rows : padded_height q p * a.stride ≤ a.len
-
-lent : (q : Sequence) (p : ℕ) (a : DataPlane) → plane_refusal q p a ≡ 0 → Lent q p a
-unfolding plane_refusal stride_bad rows_bad
-lent q p a e =
-    let s = row_none (stride_bad q p a) _ _ e in
-    let r = row_none (rows_bad q p a) _ _ s.1 in
-    let fewer : padded_height q p ≤ a.len / a.stride = ltb-false _ _ r.0 in
-    record {
-      row = ltb-false _ _ s.0;
-      rows = omega (arith, mul-le-mul_right a.stride fewer, div-mul-le_self a.len a.stride);
-    }
 
 -- row r of the padded plane, in the block column x
 pub inside : {q : Sequence} {p : ℕ} {a : DataPlane} → Fine q → Lent q p a → (r x : ℕ) → r < padded_height q p → x < pic_width_in_mbs q
@@ -83,28 +72,9 @@ pub record Passed (i : YCbCrImage) : Type 0 where
   pub lent : (p : ℕ) → p < planes (of_picture i).form → Lent (of_picture i) p (plane_of i p)
 
 -- a plane beside Y is there only in colour, and then it is Cb or Cr
-in_colour : (b : Bool) (p : ℕ) → suc p < cond b 1 3 → (b ≡ false) × (p < 2)
+pub in_colour : (b : Bool) (p : ℕ) → suc p < cond b 1 3 → (b ≡ false) × (p < 2)
 in_colour true p h = absurd (omega arith)
 in_colour false p h = (refl, omega arith)
-
-pass : (i : YCbCrImage) → shape_refusal i ≡ 0 → planes_refusal i ≡ 0 → Passed i
-unfolding planes_refusal chroma_refusal planes
-pass i s l =
-    let t : accepted (of_picture i) ≡ true = shape-accepted i s in
-    record { sizes = t; fine = fine (session_of i) t; lent = each }
-  where
-    chroma : (p : ℕ) → suc p < planes (of_picture i).form → chroma_refusal i ≡ 0
-    chroma p h = rw (in_colour (mono (of_picture i).form) p h).0 at (neither _ _ l).1
-
-    each : (p : ℕ) → p < planes (of_picture i).form → Lent (of_picture i) p (plane_of i p)
-    each zero h = lent _ 0 _ (neither _ _ l).0
-    each (suc zero) h = lent _ 1 _ (neither _ _ (chroma 0 h)).0
-    each (suc (suc zero)) h = lent _ 2 _ (neither _ _ (chroma 1 h)).1
-    each (suc (suc (suc p))) h = absurd (omega (arith, (in_colour (mono (of_picture i).form) (suc (suc p)) h).1))
-
-pub passed : (i : YCbCrImage) → refusal_of i ≡ 0 → Passed i
-unfolding refusal_of
-passed i e = let n = neither _ _ e in pass i n.0 n.1
 
 -- a picture that 6 does not refuse is the session's
 pub same : (s q : Sequence) → session_bad s q ≡ false → s ≡ q
@@ -123,13 +93,6 @@ same s q e =
 
     equal : {w h c d w' h' c' d' : ℕ} → w ≡ w' → h ≡ h' → c ≡ c' → d ≡ d' → of w' h' c' d' ≡ of w h c d
     equal a b c d = rw (a, b, c, d) refl
-
-pub passed_next : (s : Sequence) (i : YCbCrImage) → refusal_next s i ≡ 0 → (s ≡ of_picture i) × (Passed i)
-unfolding refusal_next session_bad
-passed_next s i e =
-    let n = neither _ _ e in
-    let m = row_none (session_bad s (of_picture i)) _ _ n.1 in
-    (same s (of_picture i) m.0, pass i n.0 m.1)
 
 abbrev pub mono_image : ℕ → ℕ → DataPlane → DataPlane → DataPlane → YCbCrImage
 mono_image w h y cb cr = record { width = w; height = h; kind = Mono; y = y; cb = cb; cr = cr }

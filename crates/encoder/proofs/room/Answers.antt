@@ -4,7 +4,7 @@ use Rattle.std.proofs.Common.{◌≡◌, sym, ap, ◌∙◌, true, ℕ, ◌+◌,
 use borrow.Author.Tests.{not-true, not-false}
 use Rattle.ycbcr_image.specs.Sizes.{sequence_of}
 use Rattle.ycbcr_image.specs.Refusals.{accepted}
-use Rattle.ycbcr_image.specs.Accepted.{fine}
+use Rattle.ycbcr_image.proofs.Accepted.{fine}
 use Rattle.encoder.specs.Room.{sets_most, most_few, room_some, room_zero}
 use Rattle.encoder.proofs.room.Goals as goal
 

@@ -7,7 +7,8 @@ use mir.Facts.{to_z-of_z}
 use borrow.Author.Tests.{lt-leb}
 use Rattle.golomb.specs.Code.{ue}
 use Rattle.golomb.specs.Signed.{mapped, map_most, se}
-use Rattle.golomb.specs.Answers.{has_se, write_none}
+use Rattle.golomb.specs.Answers.{has_se}
+use Rattle.golomb.proofs.Answers.{write_none}
 use Rattle.golomb.proofs.write_se.Goals as goal
 
 -- the bits of the least number

@@ -2,7 +2,8 @@
 use Rattle.std.proofs.Common.{◌≡◌, refl, sym, true, false, ℕ, ◌-◌, ◌^◌, ◌≤◌, arith, le-leb}
 use borrow.Author.Tests.{lt-leb}
 use Rattle.golomb.specs.Code.{ue}
-use Rattle.golomb.specs.Answers.{has_ue, write_none}
+use Rattle.golomb.specs.Answers.{has_ue}
+use Rattle.golomb.proofs.Answers.{write_none}
 use Rattle.golomb.proofs.write_ue.Goals as goal
 
 no_code : (x : ℕ) → x ≡ 4294967295 → has_ue x ≡ false

@@ -2,7 +2,8 @@
 
 use Rattle.std.proofs.Common.{refl, ap₂, ℕ, ◌-◌, ◌*◌, ◌/◌, arith}
 use Rattle.ycbcr_image.specs.Sizes.{sequence_of}
-use Rattle.ycbcr_image.specs.Accepted.{Fine, fine}
+use Rattle.ycbcr_image.specs.Accepted.{Fine}
+use Rattle.ycbcr_image.proofs.Accepted.{fine}
 use Rattle.parameter_sets.specs.Sps.{crop_right, crop_bottom}
 use Rattle.parameter_sets.specs.Code.{cover-x, cover-y, unit-x, unit-y}
 use Rattle.parameter_sets.proofs.frame_cropping.Goals as goal

@@ -2,7 +2,8 @@
 
 use Rattle.std.proofs.Common.{◌≡◌, refl, sym, ap, ◌∙◌, true, false, not, ℕ, ◌*◌, arith, eqb, eq-eqb, ne_eqb}
 use Rattle.ycbcr_image.specs.Sizes.{sequence_of, pic_width_in_mbs}
-use Rattle.ycbcr_image.specs.Accepted.{Fine, fine}
+use Rattle.ycbcr_image.specs.Accepted.{Fine}
+use Rattle.ycbcr_image.proofs.Accepted.{fine}
 use Rattle.parameter_sets.specs.Sps.{cropped}
 use Rattle.parameter_sets.proofs.frame_cropping_flag.Goals as goal
 

@@ -4,7 +4,8 @@ use borrow.Author.Tests.{not-true, not-false}
 use Rattle.bits.specs.Bits.{low_bits}
 use Rattle.golomb.specs.Code.{ue}
 use Rattle.ycbcr_image.specs.Sizes.{Sequence, sequence_of}
-use Rattle.ycbcr_image.specs.Accepted.{Fine, fine}
+use Rattle.ycbcr_image.specs.Accepted.{Fine}
+use Rattle.ycbcr_image.proofs.Accepted.{fine}
 use Rattle.parameter_sets.specs.Sps.{u, crop_right, crop_bottom, cropped, crop_fields}
 use Rattle.parameter_sets.specs.Split.{right_most, bottom_most}
 use Rattle.parameter_sets.specs.Code.{Putting, putting, put_room, put_fits, put_as, put_next, put_last}

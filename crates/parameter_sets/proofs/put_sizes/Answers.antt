@@ -3,7 +3,8 @@ use Rattle.std.proofs.Common.{◌≡◌, ap, List, ◌++◌, ℕ, ◌-◌, arith
 use Rattle.bits.specs.Bits.{low_bits}
 use Rattle.golomb.specs.Code.{ue}
 use Rattle.ycbcr_image.specs.Sizes.{Sequence, sequence_of, pic_width_in_mbs, frame_height_in_mbs}
-use Rattle.ycbcr_image.specs.Accepted.{Fine, fine}
+use Rattle.ycbcr_image.specs.Accepted.{Fine}
+use Rattle.ycbcr_image.proofs.Accepted.{fine}
 use Rattle.parameter_sets.specs.Sps.{u}
 use Rattle.parameter_sets.specs.Code.{size_fields, size_is, Putting, putting, put_room, put_fits, put_as, put_next, put_last}
 use Rattle.parameter_sets.proofs.put_sizes.Goals as goal

@@ -4,7 +4,7 @@ use Rattle.bits.specs.Bits.{BitsPut}
 use Rattle.ycbcr_image.specs.Sizes.{Sequence, sequence_of}
 use Rattle.parameter_sets.specs.Sps.{chroma_fields, crop_fields, sps_bits, sps_payload}
 use Rattle.parameter_sets.specs.Split.{sps_tail, sps_below, sps_short}
-use Rattle.ycbcr_image.specs.Accepted.{fine}
+use Rattle.ycbcr_image.proofs.Accepted.{fine}
 use Rattle.parameter_sets.specs.Code.{head_fields, size_fields, sps-pieces, Putting, putting, put_most, put-bytes, put_room, put_next, put_last, packed_in}
 use Rattle.parameter_sets.proofs.sps.Goals as goal
 

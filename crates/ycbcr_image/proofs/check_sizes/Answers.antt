@@ -2,7 +2,8 @@
 use Rattle.std.proofs.Common.{refl, ◌/◌, ◌≤◌, ◌<◌, arith, lt-ltb, le-ltb}
 use Rattle.ycbcr_image.specs.Sizes.{sequence_of, padded_row_bytes, padded_height}
 use Rattle.ycbcr_image.specs.Refusals.{stride_bad, rows_bad, plane_refusal}
-use Rattle.ycbcr_image.specs.Accepted.{fine, row_some}
+use Rattle.ycbcr_image.specs.Accepted.{row_some}
+use Rattle.ycbcr_image.proofs.Accepted.{fine}
 use Rattle.ycbcr_image.proofs.check_sizes.Goals as goal
 
 pub returns-then-stride-row : goal.returns-then-stride-row

@@ -1,7 +1,8 @@
 -- `ycbcr_image::tight_len` meets its contract: the product is small. Assumes nothing.
 use Rattle.std.proofs.Common.{refl, sym, arith}
 use Rattle.ycbcr_image.specs.Sizes.{tight_length}
-use Rattle.ycbcr_image.specs.Accepted.{fine, tight_most}
+use Rattle.ycbcr_image.specs.Accepted.{tight_most}
+use Rattle.ycbcr_image.proofs.Accepted.{fine}
 use Rattle.ycbcr_image.proofs.tight_len.Goals as goal
 
 pub returns : goal.returns

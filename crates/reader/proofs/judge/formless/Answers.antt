@@ -1,6 +1,6 @@
 -- `reader::judge::formless` meets its contract: a longer payload, or one of the exact length that is not right. Assumes nothing.
 use Rattle.std.proofs.Common.{arith}
-use Rattle.ycbcr_image.specs.Accepted.{fine}
+use Rattle.ycbcr_image.proofs.Accepted.{fine}
 use Rattle.ycbcr_image.specs.Sizes.{sequence_of}
 use Rattle.reader.specs.Heads.{payload_at}
 use Rattle.reader.specs.ReadCode.{formless-long, formless_right}

@@ -1,6 +1,6 @@
 -- `reader::judge::take_picture` meets its contract: 17, 18 and 19 in turn, then the samples. Assumes nothing.
 use Rattle.std.proofs.Common.{refl}
-use Rattle.ycbcr_image.specs.Accepted.{fine}
+use Rattle.ycbcr_image.proofs.Accepted.{fine}
 use Rattle.ycbcr_image.specs.Sizes.{sequence_of}
 use Rattle.reader.specs.Heads.{payload_at, small-length}
 use Rattle.reader.specs.Read.{held_of, rooms}
