@@ -14,7 +14,8 @@ use Rattle.nal_unit.specs.Frame.{joined}
 use Rattle.nal_unit.specs.EscapeCode.{counted}
 use Rattle.nal_unit.specs.PutCode.{Put}
 use Rattle.nal_unit.specs.CountCode.{Counts}
-use Rattle.nal_unit.specs.UnitCode.{opening, framed, framed-length, Framed, frame_room, frame-put}
+use Rattle.nal_unit.specs.UnitCode.{opening, framed, framed-length, Framed}
+use Rattle.nal_unit.proofs.UnitCode.{frame_room, frame-put}
 use Rattle.parameter_sets.specs.declared.Payload.{Payload}
 use Rattle.parameter_sets.specs.Sps.{sps_payload, base_level}
 use Rattle.parameter_sets.specs.Pps.{pps_payload, pps_is}

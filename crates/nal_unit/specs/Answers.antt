@@ -5,17 +5,16 @@
 --     unescaped_number, unescaped_length, unescape_of, unescaped_out, unescaped_same     the same of unescaping (12 a fault)
 --     unescape-esc              what was escaped comes back
 -- Assumes nothing.
+-- Escaping
 use Rattle.std.specs.Prelude.{◌≡◌, refl, List, ◌++◌, true, false, cond, ℕ, ◌≤◌, ◌<◌, leb, length, drop}
 use Rattle.std.proofs.Common.{ap, arith, le-leb}
 use Rattle.std.proofs.lemmas.Bool.{lt-leb}
 use Rattle.nal_unit.specs.Escape.{esc}
-use Rattle.nal_unit.specs.Unescape.{un, un-esc, fault, fault-esc}
+use Rattle.nal_unit.specs.Unescape.{un, fault}
 use Rattle.nal_unit.specs.declared.Escaped.{Escaped}
 use Rattle.nal_unit.specs.declared.Escaped.TheVariants as Esc
 use Rattle.nal_unit.specs.declared.unescape.Unescaped.{Unescaped}
 use Rattle.nal_unit.specs.declared.unescape.Unescaped.TheVariants.{Written, Fault, NoRoom}
-
--- Escaping
 
 abbrev pub number_of : Escaped → ℕ
 number_of (Esc.Written n) = 0
@@ -95,10 +94,3 @@ unescaped_same Fault NoRoom e f = absurd (omega arith)
 unescaped_same NoRoom (Written n) e f = absurd (omega arith)
 unescaped_same NoRoom Fault e f = absurd (omega arith)
 unescaped_same NoRoom NoRoom e f = refl
-
--- what was escaped comes back: the payload p, where it has room, and what stood behind it in the buffer
-pub unescape-esc : (p d : List ℕ) → length p ≤ length d
-    → (unescape_of (esc p) d ≡ Written (length p)) × (unescaped_out (unescape_of (esc p) d) (esc p) d ≡ p ++ drop (length p) d)
-unescape-esc p d h =
-    let e : unescape_of (esc p) d ≡ Written (length p) = rw (un-esc 0 p) at (unescape_fits (esc p) d (fault-esc p) (rw (un-esc 0 p) h)) in
-    (e, rw (e, un-esc 0 p) refl)

@@ -4,13 +4,13 @@
 --     Along                 the same of a part of a slice
 --     pieces                a payload in two pieces
 -- Assumes nothing.
-use Rattle.std.specs.Prelude.{◌≡◌, refl, List, [], ◌∷◌, ◌++◌, true, false, ℕ, ◌+◌, ◌-◌, ◌≤◌, length, take, drop, set}
-use Rattle.std.proofs.Common.{◌∙◌, append-nil, zero-add, add-zero, arith}
+use Rattle.std.specs.Prelude.{◌≡◌, refl, List, [], ◌∷◌, ◌++◌, true, false, ℕ, ◌+◌, ◌-◌, ◌≤◌, length, take, set}
+use Rattle.std.proofs.Common.{append-nil, add-zero, arith}
 use Rattle.std.proofs.Math.Nat.{sub-zero}
-use Rattle.lists.specs.Fill.{splice, splice-length, set-splice, splice-splice, Writing, start_at, puts, puts_room, done_at, splice_front}
-use Rattle.lists.specs.Part.{part, part-append, part_all}
-use Rattle.nal_unit.specs.Escape.{esc, inserts, esc_from, zeros_end, esc-nil, esc-append}
-use Rattle.nal_unit.specs.EscapeCode.{counted, counted_most, counted_none, run-esc, counted_behind, esc-hit, esc-plain, end_run, counted-part}
+use Rattle.lists.specs.Fill.{splice, splice-length, set-splice, splice-splice, Writing, start_at, puts, puts_room, done_at}
+use Rattle.lists.specs.Part.{part, part-append}
+use Rattle.nal_unit.specs.Escape.{inserts, esc_from, zeros_end, esc-nil, esc-append}
+use Rattle.nal_unit.specs.EscapeCode.{counted, counted_most, run-esc, counted_behind, esc-hit, esc-plain, end_run, counted-part}
 use Rattle.nal_unit.specs.CalmCode.{Quiet, quiet-esc, blanks}
 
 -- The payload xs escaped at the place `at` of the output d, which then holds d', up to the place at'.
@@ -66,14 +66,6 @@ pub put-plain : (d : List ℕ) (at b : ℕ) → inserts (counted d at) b ≡ fal
 put-plain d at b e h =
     let f : esc_from (counted d at) (b ∷ []) ≡ b ∷ [] = esc-plain (counted d at) b e in
     record { place = rw f refl; bytes = rw f (set-splice d at b (omega arith)) }
-
--- a whole list escaped from the first byte of the output on
-pub whole : (d p : List ℕ) → esc_from (counted d 0) (part p 0 (length p)) ≡ esc p
-whole d p = rw (counted_none d, part_all p (length p) refl) refl
-
-pub put_whole : (d p : List ℕ) {d' : List ℕ} {at : ℕ} → Put d 0 (part p 0 (length p)) d' at → (at ≡ length (esc p)) × (d' ≡ esc p ++ drop (length (esc p)) d)
-put_whole d p g =
-    (g.place ∙ rw (whole d p) (zero-add (length (esc p))), g.bytes ∙ rw (whole d p) (splice_front d (esc p)))
 
 -- 64 zeros written behind z counted ones
 pub put-blanks : (d : List ℕ) (at z : ℕ) {v d' : List ℕ} → counted d at ≡ z → esc_from z (blanks 64) ≡ v → length v ≡ 96 → d' ≡ splice d at v → Put d at (blanks 64) d' (at + 96)

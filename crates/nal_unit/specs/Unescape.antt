@@ -12,7 +12,7 @@ use Rattle.std.proofs.Common.{ap, ◌∙◌, true≢false, arith, leb-true, leb-
 use Rattle.std.proofs.Math.Bool.{and-eq-true_iff, and-false}
 use Rattle.std.proofs.Math.Seq.{take-nil}
 use Rattle.std.proofs.lemmas.Bool.{lt-leb}
-use Rattle.nal_unit.specs.Escape.{inserts, emit, zeros, esc_from, esc, emit_more, emit_same, zeros_above}
+use Rattle.nal_unit.specs.Escape.{inserts, emit, zeros, esc_from, emit_more, emit_same, zeros_above}
 use Rattle.nal_unit.specs.Bytes.{last_of}
 
 -- whether the byte x, with z zero bytes counted before it, is an inserted one
@@ -161,12 +161,12 @@ unfolding fault_here over3
 fault-mark a b x t h = fault_past a (b ∷ 3 ∷ x ∷ t) (simp (lt-leb 4 x (omega arith), and-false)) ∙ fault-second b 3 (x ∷ t) (omega arith)
 
 -- the three states of the writer: behind the zero bytes that it counts, no fault
-record Clean (xs : List ℕ) : Type 0 where
-  none : fault (esc_from 0 xs) ≡ false
-  one : fault (0 ∷ esc_from 1 xs) ≡ false
-  two : fault (0 ∷ 0 ∷ esc_from 2 xs) ≡ false
+pub record Clean (xs : List ℕ) : Type 0 where
+  pub none : fault (esc_from 0 xs) ≡ false
+  pub one : fault (0 ∷ esc_from 1 xs) ≡ false
+  pub two : fault (0 ∷ 0 ∷ esc_from 2 xs) ≡ false
 
-clean : (xs : List ℕ) → Clean xs
+pub clean : (xs : List ℕ) → Clean xs
 unfolding esc_from emit zeros inserts fault fault_here
 clean [] = record { none = refl; one = refl; two = refl }
 clean (x ∷ xs) = by x (clean xs)
@@ -184,10 +184,6 @@ clean (x ∷ xs) = by x (clean xs)
         most true e =
             rw (emit_more 2 (suc x) e) (fault-mark 0 0 (suc x) (esc_from 0 xs) (leb-true (suc x) 3 e) ∙ fault_first (suc x) (esc_from 0 xs) (omega arith) ∙ c.none)
         most false e = rw (emit_same 2 (suc x) e) (fault-third 0 0 (suc x) (esc_from 0 xs) (leb-false (suc x) 3 e) ∙ c.none)
-
--- no escape has a fault
-pub fault-esc : (xs : List ℕ) → fault (esc xs) ≡ false
-fault-esc xs = (clean xs).none
 
 over3-take : (m : ℕ) (t : List ℕ) → over3 t ≡ false → over3 (take m t) ≡ false
 unfolding over3
@@ -228,7 +224,3 @@ fault-take (suc m) [] e = fault-nil
 fault-take (suc m) (x ∷ t) e =
     let n = fault_none x t e in
     fault_past x (take m t) (here_take (suc m) (x ∷ t) n.0) ∙ fault-take m t n.1
-
--- so no start of an escape has one
-pub fault-esc-take : (m : ℕ) (p : List ℕ) → fault (take m (esc p)) ≡ false
-fault-esc-take m p = fault-take m (esc p) (fault-esc p)

@@ -7,9 +7,8 @@ use Rattle.std.specs.Prelude.{◌≡◌, refl, List, [], ◌∷◌, ◌++◌, �
 use Rattle.std.proofs.Common.{◌∙◌, arith, length-append}
 use Rattle.lists.specs.Fill.{splice, splice-length, set-splice, splice-splice}
 use Rattle.lists.specs.Part.{part}
-use Rattle.nal_unit.specs.Escape.{esc, esc_from}
+use Rattle.nal_unit.specs.Escape.{esc}
 use Rattle.nal_unit.specs.EscapeCode.{run, run_end, counted, run-other, counted_behind}
-use Rattle.nal_unit.specs.PutCode.{Put}
 
 -- what opens a unit (B.1.1, 7.3.1): the start code with the zero byte before it, and the header byte
 unfoldable pub opening : ℕ → List ℕ
@@ -36,25 +35,6 @@ opening-count d at h l r = counted_behind d at (opening h) r ∙ run-other (run 
 pub record Framed (d : List ℕ) (at h : ℕ) (p d' : List ℕ) (at' : ℕ) : Type 0 where
   pub place : at' ≡ at + length (framed h p)
   pub bytes : d' ≡ splice d at (framed h p)
-
--- opened, then the payload escaped behind, in one piece or in many
-pub frame_room : (d : List ℕ) (at h : ℕ) (p : List ℕ) {d' : List ℕ} {at' : ℕ} → 0 < h → at + length (framed h p) ≤ length d → d' ≡ splice d at (opening h) → at' ≡ at + 5
-    → at' + length (esc_from (counted d' at') p) ≤ length d'
-frame_room d at h p l r e f =
-    let n : at + 5 + length (esc p) ≤ length d = omega (arith, framed-length h p) in
-    rw (e, f, opening-count d at h l (omega arith), splice-length d at (opening h) (omega (arith, opening-length h))) n
-
-pub frame-put : (d : List ℕ) (at h : ℕ) (p : List ℕ) {d' d'' : List ℕ} {at' at'' : ℕ} → 0 < h → at + length (framed h p) ≤ length d → d' ≡ splice d at (opening h) → at' ≡ at + 5
-    → Put d' at' p d'' at'' → Framed d at h p d'' at''
-unfolding framed
-frame-put d at h p l r e f q =
-    let o : length (opening h) ≡ 5 = opening-length h in
-    let n : at + 5 + length (esc p) ≤ length d = omega (arith, framed-length h p) in
-    let z : counted (splice d at (opening h)) (at + 5) ≡ 0 = opening-count d at h l (omega arith) in
-    record {
-      place = q.place ∙ rw (e, f, z) (omega (arith, framed-length h p));
-      bytes = q.bytes ∙ rw (e, f, z) (rw o at (splice-splice d at (opening h) (esc p) (omega arith)));
-    }
 
 pub open_put : (d : List ℕ) (at h : ℕ) {d' : List ℕ} → at + 5 ≤ length d → d' ≡ splice d at (part (0 ∷ 0 ∷ 0 ∷ 1 ∷ []) 0 4) → set d' (at + 4) h ≡ splice d at (opening h)
 unfolding opening part

@@ -4,7 +4,8 @@ use Rattle.std.proofs.Common.{ap}
 use Rattle.golomb.specs.Code.{ue}
 use Rattle.golomb.specs.Signed.{se}
 use Rattle.golomb.specs.Cases.{unsigned-codes, signed-codes}
-use Rattle.nal_unit.specs.Escape.{inserts, emit, zeros, esc_from, esc, esc-five, esc_two, esc-four, esc-three}
+use Rattle.nal_unit.specs.Escape.{inserts, emit, zeros, esc_from, esc}
+use Rattle.nal_unit.proofs.Escape.{esc-five, esc_two, esc-four, esc-three}
 use Rattle.nal_unit.specs.Calls.{ended, turn, turn_end}
 use Rattle.nal_unit.specs.Walk.{meet-nil}
 use Rattle.ycbcr_image.specs.Sizes.{Sequence}

@@ -8,7 +8,7 @@ use borrow.Author.Tests.{lt-ltb}
 use Rattle.lists.specs.Test.{same, same→eq}
 use Rattle.nal_unit.specs.Escape.{esc}
 use Rattle.nal_unit.specs.Walk.{trim}
-use Rattle.nal_unit.specs.Units.{broken-unit}
+use Rattle.nal_unit.proofs.Units.{broken-unit}
 use Rattle.parameter_sets.specs.Sps.{sps_payload, base_level}
 use Rattle.parameter_sets.specs.Pps.{pps_payload}
 use Rattle.parameter_sets.specs.Prefix.{sps-prefix}

@@ -8,7 +8,7 @@ use borrow.Author.Tests.{le-ltb}
 use Rattle.lists.specs.Test.{same_refl}
 use Rattle.nal_unit.specs.Escape.{esc}
 use Rattle.nal_unit.specs.Unescape.{un-esc}
-use Rattle.nal_unit.specs.Units.{fault-unit}
+use Rattle.nal_unit.proofs.Units.{fault-unit}
 use Rattle.parameter_sets.specs.Sps.{sps_payload, base_level}
 use Rattle.parameter_sets.specs.Pps.{pps_payload}
 use Rattle.parameter_sets.specs.Read.{sps_whole}

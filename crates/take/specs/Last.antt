@@ -6,7 +6,7 @@ use Rattle.bits.specs.Pack.{packed}
 use Rattle.golomb.specs.Code.{ue}
 use Rattle.nal_unit.specs.Bytes.{last_of}
 use Rattle.nal_unit.specs.Walk.{Whole}
-use Rattle.nal_unit.specs.Units.{whole}
+use Rattle.nal_unit.proofs.Units.{whole}
 use Rattle.parameter_sets.specs.Sps.{sps_bits, sps_payload, crop_fields, vui_fields, base_level}
 use Rattle.parameter_sets.specs.Pps.{pps_payload, pps_is}
 use Rattle.parameter_sets.specs.Split.{sps_head, sps_tail, sps-split}

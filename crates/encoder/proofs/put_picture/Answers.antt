@@ -1,6 +1,6 @@
 -- `encoder::put_picture` meets its contract: the unit is opened, and the payload written behind. Assumes nothing.
 use Rattle.std.proofs.Common.{arith, length}
-use Rattle.nal_unit.specs.UnitCode.{frame_room, frame-put}
+use Rattle.nal_unit.proofs.UnitCode.{frame_room, frame-put}
 use Rattle.ycbcr_image.specs.Sizes.{sequence_of}
 use Rattle.slice.specs.Picture.{picture_of}
 use Rattle.slice.specs.Macroblocks.{lends}

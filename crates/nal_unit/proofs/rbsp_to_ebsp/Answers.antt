@@ -3,7 +3,7 @@
 use Rattle.std.proofs.Common.{sym, ap, ◌∙◌, ◌≤◌, ◌<◌, arith, length, leb-true, leb-false}
 use borrow.Author.Tests.{not-true, not-false}
 use Rattle.nal_unit.specs.Escape.{esc}
-use Rattle.nal_unit.specs.PutCode.{whole, put_whole}
+use Rattle.nal_unit.proofs.PutCode.{whole, put_whole}
 use Rattle.nal_unit.specs.Answers.{escaped_room, escaped_none}
 use Rattle.nal_unit.specs.declared.Escaped.TheVariants.{Written}
 use Rattle.nal_unit.proofs.rbsp_to_ebsp.Goals as goal

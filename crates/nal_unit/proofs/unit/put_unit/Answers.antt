@@ -1,7 +1,8 @@
 -- `nal_unit::unit::put_unit` meets its contract: the unit is opened, and the payload escaped behind. Assumes nothing.
 use Rattle.std.proofs.Common.{refl, arith, length}
 use Rattle.lists.specs.Part.{part_all}
-use Rattle.nal_unit.specs.UnitCode.{framed-length, frame_room, frame-put}
+use Rattle.nal_unit.specs.UnitCode.{framed-length}
+use Rattle.nal_unit.proofs.UnitCode.{frame_room, frame-put}
 use Rattle.nal_unit.proofs.unit.put_unit.Goals as goal
 
 pub open_unit-a-requires : goal.open_unit-a-requires
