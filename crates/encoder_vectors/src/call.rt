@@ -10,7 +10,7 @@ use ycbcr_image::{BitDepth, Kind, Session, YCbCrImage};
 const BYTES: usize = 900000;
 
 // A start or a next call with a picture, and what the planes of that hold.
-#[derive(Drop)]
+#[derive(Clone, Copy)]
 pub struct Call {
     pub next: bool,
     pub image: YCbCrImage,
@@ -19,7 +19,7 @@ pub struct Call {
 }
 
 // What a call has to answer: the number, the length that is told, and the sum of the bytes that it writes.
-#[derive(Drop)]
+#[derive(Clone, Copy)]
 pub struct Wanted {
     pub number: u32,
     pub length: usize,
@@ -27,7 +27,7 @@ pub struct Wanted {
 }
 
 // Calls in turn: what was compared of them, and the session that the host holds behind the last.
-#[derive(Drop)]
+#[derive(Clone, Copy)]
 pub struct Calls {
     pub tally: Tally,
     pub held: Session,
@@ -58,7 +58,7 @@ pub fn malformed(c: Calls) -> Calls {
 }
 
 // An answer: its number, 0 or that of a refusal, the length that is told, and the session that the host holds behind it.
-#[derive(Drop)]
+#[derive(Clone, Copy)]
 struct Answer {
     number: u32,
     length: usize,
@@ -179,7 +179,7 @@ pub fn part(bytes: &[u8], from: usize, to: usize) -> &[u8] {
 // Whether the output begins with the bytes that are wanted, as far as they are known, and has bytes `fill` behind them.
 fn holds(out: &[u8], fill: u8, wanted: Wanted, bytes: &[u8]) -> bool {
     let n = if wanted.number == 0 { wanted.length } else { 0 };
-    check::same(part(out, 0, bytes.len()), bytes)
+    part(out, 0, bytes.len()) == bytes
         && sum_of(part(out, 0, n)) == wanted.sum
         && is_clear(part(out, n, out.len()), fill)
 }

@@ -15,19 +15,19 @@ pub const CALL: usize = 15;
 
 // The content that a word names.
 fn content(word: &[u8]) -> Content {
-    if check::same(word, b"all") {
+    if word == b"all".as_slice() {
         return Content::All;
     }
-    if check::same(word, b"any") {
+    if word == b"any".as_slice() {
         return Content::Any;
     }
-    if check::same(word, b"none") {
+    if word == b"none".as_slice() {
         return Content::None;
     }
-    if check::same(word, b"few") {
+    if word == b"few".as_slice() {
         return Content::Few;
     }
-    if check::same(word, b"many") {
+    if word == b"many".as_slice() {
         return Content::Many;
     }
     Content::Unknown
@@ -109,7 +109,7 @@ fn image(line: &[u8], w: Words) -> YCbCrImage {
 }
 
 // What the words of a call say.
-#[derive(Drop)]
+#[derive(Clone, Copy)]
 pub enum Parsed {
     Call(Call),
     Malformed,

@@ -12,6 +12,8 @@ use crate::line::{CALL, Parsed, parse};
 use crate::plain::{PLAIN, put_call};
 use crate::sum::{EMPTY, sum_of};
 use crate::words::{BAD, Words, decode, is, number, short, split, word};
+use std::io;
+use std::io::Read;
 use std::num::wrapping_add_usize;
 
 // The room for the bytes that a line gives.
@@ -20,7 +22,7 @@ const GIVEN: usize = 2000;
 // The room for a sequence parameter set.
 const SET: usize = 32;
 
-// The room for the list, which is shorter.
+// The length that a list on standard input stays below.
 const LIST: usize = 300000;
 
 // Judges an accepted call by the sum, and by the bytes where they are given.
@@ -127,13 +129,13 @@ pub fn judge_text(text: &[u8]) -> Tally {
     c.tally
 }
 
-// Judges the list on standard input. An empty one is malformed, and one that fills the room.
-pub fn judge_input() -> Tally {
-    let mut text = [0u8; LIST];
-    let n = io::read_full(libc::STDIN_FILENO, &mut text);
-    if n == 0 || n == LIST {
+// Judges the list on standard input. An empty one is malformed, and so is one of LIST bytes or more.
+pub fn judge_input(rt: &(impl Input + Alloc)) -> io::Result<Tally> {
+    let mut text = Vec::new(rt.alloc());
+    rt.reader().take(LIST as u64).read_to_end(&mut text)?;
+    if text.is_empty() || text.len() == LIST {
         let c = malformed(fresh());
-        return c.tally;
+        return Ok(c.tally);
     }
-    judge_text(&text[..n])
+    Ok(judge_text(&text))
 }

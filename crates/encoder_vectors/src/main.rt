@@ -1,6 +1,7 @@
 // Runs the writer's start and next calls with the pictures of 01, at each limit, with each fault, and with the pictures of a list that the Rust
 // encoded, and prints what was compared.
 #![tactic(auto)]
+
 mod call;
 mod count;
 mod limits;
@@ -14,41 +15,53 @@ mod sum;
 mod words;
 
 use count::{Tally, none, tell};
+use std::io;
 
 // The pictures of 01, and the limits.
-fn run_pictures(t: Tally) -> Tally {
-    let t = tell(t, b"the pictures of 01", pictures::paper());
+fn run_pictures(rt: &impl Print, t: Tally) -> io::Result<Tally> {
+    let t = tell(rt, t, "the pictures of 01", pictures::paper())?;
     let t = tell(
+        rt,
         t,
-        b"mono accepted with chroma planes that no picture has",
+        "mono accepted with chroma planes that no picture has",
         pictures::unread(),
-    );
+    )?;
     let t = tell(
+        rt,
         t,
-        b"sizes of 16,384 accepted, others refused with 1",
+        "sizes of 16,384 accepted, others refused with 1",
         limits::sizes(),
-    );
+    )?;
     tell(
+        rt,
         t,
-        b"widths and heights of each kind accepted, others refused with 3, 4 and 5",
+        "widths and heights of each kind accepted, others refused with 3, 4 and 5",
         limits::shapes(),
     )
 }
 
 // The refusals.
-fn run_refusals(t: Tally) -> Tally {
-    let t = tell(t, b"depths refused with 2", refusals::depths());
+fn run_refusals(rt: &impl Print, t: Tally) -> io::Result<Tally> {
+    let t = tell(rt, t, "depths refused with 2", refusals::depths())?;
     let t = tell(
+        rt,
         t,
-        b"next calls in their session accepted, others refused with 6",
+        "next calls in their session accepted, others refused with 6",
         refusals::sessions(),
-    );
-    let t = tell(t, b"planes refused with 7 and 8", refusals::planes());
-    tell(t, b"two faults refused with the first", refusals::order())
+    )?;
+    let t = tell(rt, t, "planes refused with 7 and 8", refusals::planes())?;
+    tell(
+        rt,
+        t,
+        "two faults refused with the first",
+        refusals::order(),
+    )
 }
 
-fn main() {
-    let t = run_refusals(run_pictures(none()));
-    let t = tell(t, b"the calls of the list", list::judge_input());
-    tell(none(), b"all", t);
+fn main(rt: HostRuntime) -> io::Result<()> {
+    let t = run_pictures(&rt, none())?;
+    let t = run_refusals(&rt, t)?;
+    let t = tell(&rt, t, "the calls of the list", list::judge_input(&rt)?)?;
+    tell(&rt, none(), "all", t)?;
+    Ok(())
 }

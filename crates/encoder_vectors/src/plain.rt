@@ -5,7 +5,7 @@ use crate::call::Call;
 pub const PLAIN: usize = 300000;
 
 // Where the next byte of a payload goes, and how many zeros stand before it: 0, 1 or 2, counted since the last inserted byte.
-#[derive(Drop)]
+#[derive(Clone, Copy)]
 struct Place {
     at: usize,
     zeros: usize,

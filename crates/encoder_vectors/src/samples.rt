@@ -5,7 +5,7 @@ pub const DRAWN: usize = 700000;
 
 // What the bytes are: all the seed's lowest byte; any; none of them 0; some of them 0 to 3; most of them 0. Unknown is what no word of
 // a line names.
-#[derive(Drop)]
+#[derive(Clone, Copy)]
 pub enum Content {
     All,
     Any,

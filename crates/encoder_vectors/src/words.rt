@@ -8,7 +8,7 @@ pub const BAD: u64 = u64::MAX;
 pub const TOO_MANY: usize = 1000000;
 
 // Where each word begins, and behind the last where a further one would; how many there are, 21 for any more than 20.
-#[derive(Drop)]
+#[derive(Clone, Copy)]
 pub struct Words {
     pub start: [usize; 21],
     pub count: usize,
@@ -63,7 +63,7 @@ pub fn word(line: &[u8], w: Words, k: usize) -> &[u8] {
 
 // Whether the word number `k` is this one.
 pub fn is(line: &[u8], w: Words, k: usize, name: &[u8]) -> bool {
-    check::same(word(line, w, k), name)
+    word(line, w, k) == name
 }
 
 // A number with one digit more.
