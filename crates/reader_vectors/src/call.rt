@@ -4,12 +4,13 @@ ghost use Rattle.std.specs.Prelude.{◌≤◌, length};
 use crate::count::{Tally, counted};
 use crate::state::{Told, at, in_numbers, refused, same_sets, same_told};
 use reader::{Reader, Step};
+use std::io;
 
 // The bytes of a plane.
 pub const PLANE: usize = 1000;
 
 // How many bytes of each plane are lent.
-#[derive(Drop)]
+#[derive(Clone, Copy)]
 pub struct Lent {
     pub y: usize,
     pub cb: usize,
@@ -92,8 +93,9 @@ fn holds(plane: &[u8; PLANE], wanted: &[u8], fill: u8) -> bool {
 
 // Makes the call with planes of bytes `fill`. Compares the answer, the place and the sets that the reader is left with, and every byte of each plane.
 fn judge_in(
+    rt: &impl Print,
     t: Tally,
-    name: &[u8],
+    name: &str,
     take: &[u8],
     reader: Reader,
     lent: Lent,
@@ -103,7 +105,7 @@ fn judge_in(
     cb: &[u8],
     cr: &[u8],
     fill: u8,
-) -> Calls {
+) -> io::Result<Calls> {
     let mut y_plane = [fill; PLANE];
     let mut cb_plane = [fill; PLANE];
     let mut cr_plane = [fill; PLANE];
@@ -120,23 +122,31 @@ fn judge_in(
     let left_sets = left.sets;
     let then_sets = then.sets;
     let t = counted(
+        rt,
         t,
         name,
-        b"the answer",
+        "the answer",
         same_told(in_numbers(answer), wanted),
-    );
-    let t = counted(t, name, b"the place left", left.place == then.place);
-    let t = counted(t, name, b"the sets held", same_sets(left_sets, then_sets));
-    let t = counted(t, name, b"plane Y", holds(&y_plane, y, fill));
-    let t = counted(t, name, b"plane Cb", holds(&cb_plane, cb, fill));
-    let t = counted(t, name, b"plane Cr", holds(&cr_plane, cr, fill));
-    from(t, left)
+    )?;
+    let t = counted(rt, t, name, "the place left", left.place == then.place)?;
+    let t = counted(
+        rt,
+        t,
+        name,
+        "the sets held",
+        same_sets(left_sets, then_sets),
+    )?;
+    let t = counted(rt, t, name, "plane Y", holds(&y_plane, y, fill))?;
+    let t = counted(rt, t, name, "plane Cb", holds(&cb_plane, cb, fill))?;
+    let t = counted(rt, t, name, "plane Cr", holds(&cr_plane, cr, fill))?;
+    Ok(from(t, left))
 }
 
 // Makes the call where the reading stands, with planes of bytes FF and of bytes 00, which are to begin with `y`, `cb` and `cr` then.
 pub fn judge(
+    rt: &impl Print,
     c: Calls,
-    name: &[u8],
+    name: &str,
     take: &[u8],
     lent: Lent,
     wanted: Told,
@@ -144,46 +154,58 @@ pub fn judge(
     y: &[u8],
     cb: &[u8],
     cr: &[u8],
-) -> Calls {
+) -> io::Result<Calls> {
     let tally = c.tally;
     let reader = c.reader;
     let c = judge_in(
-        tally, name, take, reader, lent, wanted, then, y, cb, cr, 255,
-    );
+        rt, tally, name, take, reader, lent, wanted, then, y, cb, cr, 255,
+    )?;
     let tally = c.tally;
-    judge_in(tally, name, take, reader, lent, wanted, then, y, cb, cr, 0)
+    judge_in(
+        rt, tally, name, take, reader, lent, wanted, then, y, cb, cr, 0,
+    )
 }
 
 // The same of a call that leaves the planes as they are, with all of them lent.
-pub fn step(c: Calls, name: &[u8], take: &[u8], wanted: Told, then: Reader) -> Calls {
-    judge(c, name, take, all(), wanted, then, b"", b"", b"")
+pub fn step(
+    rt: &impl Print,
+    c: Calls,
+    name: &str,
+    take: &[u8],
+    wanted: Told,
+    then: Reader,
+) -> io::Result<Calls> {
+    judge(rt, c, name, take, all(), wanted, then, b"", b"", b"")
 }
 
 // The same of one call alone.
 pub fn once(
+    rt: &impl Print,
     t: Tally,
-    name: &[u8],
+    name: &str,
     take: &[u8],
     reader: Reader,
     wanted: Told,
     then: Reader,
-) -> Tally {
-    let c = step(from(t, reader), name, take, wanted, then);
-    c.tally
+) -> io::Result<Tally> {
+    let c = step(rt, from(t, reader), name, take, wanted, then)?;
+    Ok(c.tally)
 }
 
 // The same of one call that is refused: the sets held stay, and the place is then `next`.
 pub fn refuse(
+    rt: &impl Print,
     t: Tally,
-    name: &[u8],
+    name: &str,
     take: &[u8],
     reader: Reader,
     number: u32,
     offset: usize,
     next: usize,
-) -> Tally {
+) -> io::Result<Tally> {
     let sets = reader.sets;
     once(
+        rt,
         t,
         name,
         take,

@@ -1,9 +1,9 @@
 // A count of comparisons, the line that is printed of one, and the lines of those that found a difference.
-use libc::STDOUT_FILENO;
+use std::io;
 use std::num::wrapping_add_u64;
 
 // How many comparisons were made, and how many of them found a difference.
-#[derive(Drop)]
+#[derive(Clone, Copy)]
 pub struct Tally {
     pub compared: u64,
     pub wrong: u64,
@@ -18,44 +18,40 @@ pub fn none() -> Tally {
 }
 
 // One comparison more, of `what` in the case `name`; a difference is told at once.
-pub fn counted(t: Tally, name: &[u8], what: &[u8], right: bool) -> Tally {
+pub fn counted(
+    rt: &impl Print,
+    t: Tally,
+    name: &str,
+    what: &str,
+    right: bool,
+) -> io::Result<Tally> {
     let compared = wrapping_add_u64(t.compared, 1);
     if right {
-        return Tally {
+        return Ok(Tally {
             compared: compared,
             wrong: t.wrong,
-        };
+        });
     }
-    io::write_all(STDOUT_FILENO, b"WRONG in the case \"");
-    io::write_all(STDOUT_FILENO, name);
-    io::write_all(STDOUT_FILENO, b"\": ");
-    io::write_all(STDOUT_FILENO, what);
-    io::write_all(STDOUT_FILENO, b"\n");
-    Tally {
+    println!(rt; "WRONG in the case \"{name}\": {what}")?;
+    Ok(Tally {
         compared: compared,
         wrong: wrapping_add_u64(t.wrong, 1),
-    }
+    })
 }
 
 // Prints what was compared, how often, and whether all was right; nothing compared is not right.
-fn print(what: &[u8], t: Tally) {
-    io::write_all(STDOUT_FILENO, what);
-    io::write_all(STDOUT_FILENO, b": ");
-    io::print_decimal(STDOUT_FILENO, t.compared);
+fn print(rt: &impl Print, what: &str, t: Tally) -> io::Result<()> {
     if t.compared != 0 && t.wrong == 0 {
-        io::write_all(STDOUT_FILENO, b" compared, ok\n");
-        return;
+        return println!(rt; "{what}: {} compared, ok", t.compared);
     }
-    io::write_all(STDOUT_FILENO, b" compared, WRONG: ");
-    io::print_decimal(STDOUT_FILENO, t.wrong);
-    io::write_all(STDOUT_FILENO, b"\n");
+    println!(rt; "{what}: {} compared, WRONG: {}", t.compared, t.wrong)
 }
 
 // Prints the count `u`, and adds it to `t`.
-pub fn tell(t: Tally, what: &[u8], u: Tally) -> Tally {
-    print(what, u);
-    Tally {
+pub fn tell(rt: &impl Print, t: Tally, what: &str, u: Tally) -> io::Result<Tally> {
+    print(rt, what, u)?;
+    Ok(Tally {
         compared: wrapping_add_u64(t.compared, u.compared),
         wrong: wrapping_add_u64(t.wrong, u.wrong),
-    }
+    })
 }

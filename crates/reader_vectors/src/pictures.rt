@@ -4,16 +4,26 @@ use crate::call::{Calls, Lent, from, judge, lend, refuse};
 use crate::count::{Tally, none};
 use crate::plain::{COLOUR, ROOM, WIDE, put_colour, put_wide};
 use crate::state::{at, both, colour8, mono8, picture, refused};
+use std::io;
 
 // Has the first `n` bytes refused where `bytes` stand at `place`, with all of the planes lent, and with none: 17 and 18 go before 19.
-fn refuse_with(t: Tally, name: &[u8], place: usize, bytes: &[u8], n: usize, number: u32) -> Tally {
+fn refuse_with(
+    rt: &impl Print,
+    t: Tally,
+    name: &str,
+    place: usize,
+    bytes: &[u8],
+    n: usize,
+    number: u32,
+) -> io::Result<Tally> {
     let mut take = [0x10u8; ROOM];
     put_wide(&mut take);
     put_all(&mut take, place, bytes);
     let cut = part(&take, 0, n);
     let sets = both(mono8(17, 16));
-    let t = refuse(t, name, cut, at(22, sets), number, 26, n);
+    let t = refuse(rt, t, name, cut, at(22, sets), number, 26, n)?;
     let c = judge(
+        rt,
         from(t, at(22, sets)),
         name,
         cut,
@@ -23,29 +33,31 @@ fn refuse_with(t: Tally, name: &[u8], place: usize, bytes: &[u8], n: usize, numb
         b"",
         b"",
         b"",
-    );
-    c.tally
+    )?;
+    Ok(c.tally)
 }
 
 // 17: a payload that is too short; 18 is not looked at.
-pub fn short() -> Tally {
-    let t = refuse_with(none(), b"17, a sample missing", 544, b"\x80", 545, 17);
-    let t = refuse_with(t, b"17, the last byte missing", 0, b"", 545, 17);
-    let t = refuse_with(t, b"17, the last byte 00", 545, b"\x00", 546, 17);
-    let t = refuse_with(t, b"17, header alone", 0, b"", 27, 17);
-    let t = refuse_with(t, b"17, the slice header alone", 0, b"", 31, 17);
-    let t = refuse_with(t, b"17, another slice header too", 27, b"\x89", 545, 17);
+pub fn short(rt: &impl Print) -> io::Result<Tally> {
+    let t = refuse_with(rt, none(), "17, a sample missing", 544, b"\x80", 545, 17)?;
+    let t = refuse_with(rt, t, "17, the last byte missing", 0, b"", 545, 17)?;
+    let t = refuse_with(rt, t, "17, the last byte 00", 545, b"\x00", 546, 17)?;
+    let t = refuse_with(rt, t, "17, header alone", 0, b"", 27, 17)?;
+    let t = refuse_with(rt, t, "17, the slice header alone", 0, b"", 31, 17)?;
+    let t = refuse_with(rt, t, "17, another slice header too", 27, b"\x89", 545, 17)?;
     let t = refuse_with(
+        rt,
         t,
-        b"17, two zeros for three bytes",
+        "17, two zeros for three bytes",
         543,
         b"\x00\x00\x03",
         546,
         17,
-    );
+    )?;
     refuse(
+        rt,
         t,
-        b"17, of 1 by 1",
+        "17, of 1 by 1",
         b"\x00\x00\x01\x25\x88\x84\x28\x68\x80",
         at(0, both(mono8(1, 1))),
         17,
@@ -55,11 +67,12 @@ pub fn short() -> Tally {
 }
 
 // Has the picture refused with 18 where the bit number `k` is changed.
-fn refuse_bit(t: Tally, name: &[u8], k: usize) -> Tally {
+fn refuse_bit(rt: &impl Print, t: Tally, name: &str, k: usize) -> io::Result<Tally> {
     let mut take = [0x10u8; ROOM];
     put_wide(&mut take);
     flip(&mut take, k);
     refuse(
+        rt,
         t,
         name,
         part(&take, 0, WIDE),
@@ -71,59 +84,86 @@ fn refuse_bit(t: Tally, name: &[u8], k: usize) -> Tally {
 }
 
 // The same of each bit from the number `start` to `stop`.
-fn refuse_bits(t: Tally, name: &[u8], start: usize, stop: usize) -> Tally {
+fn refuse_bits(
+    rt: &impl Print,
+    t: Tally,
+    name: &str,
+    start: usize,
+    stop: usize,
+) -> io::Result<Tally> {
     let mut u = t;
     let mut k = start;
     while k < stop {
-        u = refuse_bit(u, name, k);
+        u = refuse_bit(rt, u, name, k)?;
         k += 1;
     }
-    u
+    Ok(u)
 }
 
 // 18: a payload that is longer, or not of a picture's form.
-pub fn formless() -> Tally {
-    let t = refuse_with(none(), b"18, a last byte more", 546, b"\x80", 547, 18);
-    let t = refuse_with(t, b"18, a sample more", 545, b"\x10\x80", 547, 18);
-    let t = refuse_with(t, b"18, two zeros more", 546, b"\x00\x00\x03", 549, 18);
+pub fn formless(rt: &impl Print) -> io::Result<Tally> {
+    let t = refuse_with(rt, none(), "18, a last byte more", 546, b"\x80", 547, 18)?;
+    let t = refuse_with(rt, t, "18, a sample more", 545, b"\x10\x80", 547, 18)?;
+    let t = refuse_with(rt, t, "18, two zeros more", 546, b"\x00\x00\x03", 549, 18)?;
     let t = refuse_with(
+        rt,
         t,
-        b"18, two zeros for two bytes",
+        "18, two zeros for two bytes",
         544,
         b"\x00\x00\x03",
         547,
         18,
-    );
-    let t = refuse_with(t, b"18, a last byte 81", 545, b"\x81", 546, 18);
-    let t = refuse_with(t, b"18, a last byte 40", 545, b"\x40", 546, 18);
-    let t = refuse_with(t, b"18, a sample for the last byte", 545, b"\x10", 546, 18);
-    let t = refuse_with(t, b"18, a head for the first", 29, b"\x0D\x00", 546, 18);
-    let t = refuse_with(t, b"18, a sample for a head", 287, b"\x10\x10", 546, 18);
-    let t = refuse_bits(t, b"18, a bit of the slice header", 216, 248);
-    refuse_bits(t, b"18, a bit of a macroblock's head", 2296, 2312)
+    )?;
+    let t = refuse_with(rt, t, "18, a last byte 81", 545, b"\x81", 546, 18)?;
+    let t = refuse_with(rt, t, "18, a last byte 40", 545, b"\x40", 546, 18)?;
+    let t = refuse_with(
+        rt,
+        t,
+        "18, a sample for the last byte",
+        545,
+        b"\x10",
+        546,
+        18,
+    )?;
+    let t = refuse_with(rt, t, "18, a head for the first", 29, b"\x0D\x00", 546, 18)?;
+    let t = refuse_with(rt, t, "18, a sample for a head", 287, b"\x10\x10", 546, 18)?;
+    let t = refuse_bits(rt, t, "18, a bit of the slice header", 216, 248)?;
+    refuse_bits(rt, t, "18, a bit of a macroblock's head", 2296, 2312)
 }
 
 // A call with the picture in colour, that answers 19 and stays.
-fn keep(c: Calls, name: &[u8], take: &[u8], lent: Lent) -> Calls {
+fn keep(rt: &impl Print, c: Calls, name: &str, take: &[u8], lent: Lent) -> io::Result<Calls> {
     let reader = at(20, both(colour8(16, 16)));
-    judge(c, name, take, lent, refused(19, 24), reader, b"", b"", b"")
+    judge(
+        rt,
+        c,
+        name,
+        take,
+        lent,
+        refused(19, 24),
+        reader,
+        b"",
+        b"",
+        b"",
+    )
 }
 
 // 19: planes that are a byte short and empty, each call made where the one before it stayed; then the call with just enough.
-fn colour_planes(t: Tally, take: &[u8]) -> Tally {
+fn colour_planes(rt: &impl Print, t: Tally, take: &[u8]) -> io::Result<Tally> {
     let y = [0x10u8; 256];
     let cb = [0x20u8; 64];
     let cr = [0x30u8; 64];
     let sets = both(colour8(16, 16));
     let c = from(t, at(20, sets));
-    let c = keep(c, b"19, Y a byte short", take, lend(255, 64, 64));
-    let c = keep(c, b"19, Cb a byte short", take, lend(256, 63, 64));
-    let c = keep(c, b"19, Cr a byte short", take, lend(256, 64, 63));
-    let c = keep(c, b"19, Y alone", take, lend(256, 0, 0));
-    let c = keep(c, b"19, no plane", take, lend(0, 0, 0));
+    let c = keep(rt, c, "19, Y a byte short", take, lend(255, 64, 64))?;
+    let c = keep(rt, c, "19, Cb a byte short", take, lend(256, 63, 64))?;
+    let c = keep(rt, c, "19, Cr a byte short", take, lend(256, 64, 63))?;
+    let c = keep(rt, c, "19, Y alone", take, lend(256, 0, 0))?;
+    let c = keep(rt, c, "19, no plane", take, lend(0, 0, 0))?;
     let c = judge(
+        rt,
         c,
-        b"19, then enough",
+        "19, then enough",
         take,
         lend(256, 64, 64),
         picture(24),
@@ -131,18 +171,19 @@ fn colour_planes(t: Tally, take: &[u8]) -> Tally {
         &y,
         &cb,
         &cr,
-    );
-    c.tally
+    )?;
+    Ok(c.tally)
 }
 
 // The same in mono, which has no use for the other planes. Of its 32 columns 17 are visible.
-fn mono_planes(t: Tally, take: &[u8]) -> Tally {
+fn mono_planes(rt: &impl Print, t: Tally, take: &[u8]) -> io::Result<Tally> {
     let y = [0x10u8; 272];
     let sets = both(mono8(17, 16));
     let c = from(t, at(22, sets));
     let c = judge(
+        rt,
         c,
-        b"19, mono, a byte short",
+        "19, mono, a byte short",
         take,
         lend(271, 1000, 1000),
         refused(19, 26),
@@ -150,10 +191,11 @@ fn mono_planes(t: Tally, take: &[u8]) -> Tally {
         b"",
         b"",
         b"",
-    );
+    )?;
     let c = judge(
+        rt,
         c,
-        b"19, mono, then enough",
+        "19, mono, then enough",
         take,
         lend(272, 0, 0),
         picture(26),
@@ -161,16 +203,16 @@ fn mono_planes(t: Tally, take: &[u8]) -> Tally {
         &y,
         b"",
         b"",
-    );
-    c.tally
+    )?;
+    Ok(c.tally)
 }
 
 // Both.
-pub fn planes() -> Tally {
+pub fn planes(rt: &impl Print) -> io::Result<Tally> {
     let mut colour = [0x10u8; ROOM];
     put_colour(&mut colour);
-    let t = colour_planes(none(), part(&colour, 0, COLOUR));
+    let t = colour_planes(rt, none(), part(&colour, 0, COLOUR))?;
     let mut mono = [0x10u8; ROOM];
     put_wide(&mut mono);
-    mono_planes(t, part(&mono, 0, WIDE))
+    mono_planes(rt, t, part(&mono, 0, WIDE))
 }

@@ -4,20 +4,23 @@ use crate::call::{once, refuse};
 use crate::count::{Tally, none};
 use crate::plain::{ROOM, WIDE, put_wide};
 use crate::state::{at, both, colour8, mono8, mono12, nothing, pps_only, sps, sps_only};
+use std::io;
 use ycbcr_image::Session;
 
 // Has the first call refused where no set is held, where each one is alone, and where both are.
 fn refuse_first(
+    rt: &impl Print,
     t: Tally,
-    name: &[u8],
+    name: &str,
     take: &[u8],
     number: u32,
     offset: usize,
     next: usize,
-) -> Tally {
-    let t = refuse(t, name, take, at(0, nothing()), number, offset, next);
-    let t = refuse(t, name, take, at(0, pps_only()), number, offset, next);
+) -> io::Result<Tally> {
+    let t = refuse(rt, t, name, take, at(0, nothing()), number, offset, next)?;
+    let t = refuse(rt, t, name, take, at(0, pps_only()), number, offset, next)?;
     let t = refuse(
+        rt,
         t,
         name,
         take,
@@ -25,8 +28,9 @@ fn refuse_first(
         number,
         offset,
         next,
-    );
+    )?;
     refuse(
+        rt,
         t,
         name,
         take,
@@ -38,31 +42,42 @@ fn refuse_first(
 }
 
 // 10: bytes that belong to no unit. The offset is the place, and the next place is the start code found, or the end.
-pub fn stray() -> Tally {
-    let t = refuse_first(none(), b"10, one byte", b"\x05", 10, 0, 1);
-    let t = refuse_first(t, b"10, one byte 01", b"\x01", 10, 0, 1);
-    let t = refuse_first(t, b"10, a byte behind a zero", b"\x00\x01", 10, 0, 2);
-    let t = refuse_first(t, b"10, a byte behind two zeros", b"\x00\x00\x02", 10, 0, 3);
-    let t = refuse_first(t, b"10, zeros behind", b"\x05\x00\x00", 10, 0, 3);
+pub fn stray(rt: &impl Print) -> io::Result<Tally> {
+    let t = refuse_first(rt, none(), "10, one byte", b"\x05", 10, 0, 1)?;
+    let t = refuse_first(rt, t, "10, one byte 01", b"\x01", 10, 0, 1)?;
+    let t = refuse_first(rt, t, "10, a byte behind a zero", b"\x00\x01", 10, 0, 2)?;
     let t = refuse_first(
+        rt,
         t,
-        b"10, before a start code",
+        "10, a byte behind two zeros",
+        b"\x00\x00\x02",
+        10,
+        0,
+        3,
+    )?;
+    let t = refuse_first(rt, t, "10, zeros behind", b"\x05\x00\x00", 10, 0, 3)?;
+    let t = refuse_first(
+        rt,
+        t,
+        "10, before a start code",
         b"\x05\x00\x00\x01\x68\xCE\x38\x80",
         10,
         0,
         1,
-    );
+    )?;
     let t = refuse_first(
+        rt,
         t,
-        b"10, before a start code of four bytes",
+        "10, before a start code of four bytes",
         b"\x00\x05\x00\x00\x00\x01\x68\xCE\x38\x80",
         10,
         0,
         3,
-    );
+    )?;
     refuse(
+        rt,
         t,
-        b"10, within a unit, before another",
+        "10, within a unit, before another",
         b"\x00\x00\x01\x68\xCE\x38\x80\x00\x00\x01\x68\xCE\x38\x80",
         at(4, nothing()),
         10,
@@ -72,28 +87,39 @@ pub fn stray() -> Tally {
 }
 
 // 11: an empty unit.
-pub fn empty() -> Tally {
-    let t = refuse_first(none(), b"11, a start code", b"\x00\x00\x01", 11, 3, 3);
-    let t = refuse_first(t, b"11, one of four bytes", b"\x00\x00\x00\x01", 11, 4, 4);
+pub fn empty(rt: &impl Print) -> io::Result<Tally> {
+    let t = refuse_first(rt, none(), "11, a start code", b"\x00\x00\x01", 11, 3, 3)?;
     let t = refuse_first(
+        rt,
         t,
-        b"11, zeros behind",
+        "11, one of four bytes",
+        b"\x00\x00\x00\x01",
+        11,
+        4,
+        4,
+    )?;
+    let t = refuse_first(
+        rt,
+        t,
+        "11, zeros behind",
         b"\x00\x00\x01\x00\x00\x00",
         11,
         3,
         6,
-    );
+    )?;
     let t = refuse_first(
+        rt,
         t,
-        b"11, two start codes",
+        "11, two start codes",
         b"\x00\x00\x01\x00\x00\x01\x68\xCE\x38\x80",
         11,
         3,
         3,
-    );
+    )?;
     refuse_first(
+        rt,
         t,
-        b"11, two of four bytes",
+        "11, two of four bytes",
         b"\x00\x00\x00\x01\x00\x00\x00\x01\x68\xCE\x38\x80",
         11,
         4,
@@ -102,59 +128,74 @@ pub fn empty() -> Tally {
 }
 
 // 12: what no escape has. It goes before 13 and 14.
-pub fn unescaped() -> Tally {
+pub fn unescaped(rt: &impl Print) -> io::Result<Tally> {
     let t = refuse_first(
+        rt,
         none(),
-        b"12, 00 00 03 04",
+        "12, 00 00 03 04",
         b"\x00\x00\x01\x68\x00\x00\x03\x04",
         12,
         3,
         8,
-    );
+    )?;
     let t = refuse_first(
+        rt,
         t,
-        b"12, 00 00 03 FF",
+        "12, 00 00 03 FF",
         b"\x00\x00\x01\x68\x00\x00\x03\xFF",
         12,
         3,
         8,
-    );
+    )?;
     let t = refuse_first(
+        rt,
         t,
-        b"12, 00 00 02",
+        "12, 00 00 02",
         b"\x00\x00\x01\x68\x00\x00\x02",
         12,
         3,
         7,
-    );
+    )?;
     let t = refuse_first(
+        rt,
         t,
-        b"12, 00 00 00",
+        "12, 00 00 00",
         b"\x00\x00\x01\x68\x00\x00\x00\x04",
         12,
         3,
         8,
-    );
-    let t = refuse_first(t, b"12, header 00", b"\x00\x00\x01\x00\x00\x02", 12, 3, 6);
+    )?;
     let t = refuse_first(
+        rt,
         t,
-        b"12, another header",
+        "12, header 00",
+        b"\x00\x00\x01\x00\x00\x02",
+        12,
+        3,
+        6,
+    )?;
+    let t = refuse_first(
+        rt,
+        t,
+        "12, another header",
         b"\x00\x00\x01\x41\x00\x00\x02",
         12,
         3,
         7,
-    );
+    )?;
     let t = refuse_first(
+        rt,
         t,
-        b"12, behind an inserted byte",
+        "12, behind an inserted byte",
         b"\x00\x00\x01\x68\x00\x00\x03\x00\x00\x02\x00\x00\x01",
         12,
         3,
         10,
-    );
+    )?;
     refuse_first(
+        rt,
         t,
-        b"12, a whole set before it",
+        "12, a whole set before it",
         b"\x00\x00\x01\x68\xCE\x38\x80\x00\x00\x03\x04",
         12,
         3,
@@ -163,33 +204,44 @@ pub fn unescaped() -> Tally {
 }
 
 // 13: another header. It goes before 14.
-pub fn headers() -> Tally {
-    let t = refuse_first(none(), b"13, header 41", b"\x00\x00\x01\x41", 13, 3, 4);
-    let t = refuse_first(t, b"13, header 00", b"\x00\x00\x01\x00\x05", 13, 3, 5);
-    let t = refuse_first(t, b"13, 00 00 03", b"\x00\x00\x01\x00\x00\x03", 13, 3, 6);
+pub fn headers(rt: &impl Print) -> io::Result<Tally> {
+    let t = refuse_first(rt, none(), "13, header 41", b"\x00\x00\x01\x41", 13, 3, 4)?;
+    let t = refuse_first(rt, t, "13, header 00", b"\x00\x00\x01\x00\x05", 13, 3, 5)?;
+    let t = refuse_first(rt, t, "13, 00 00 03", b"\x00\x00\x01\x00\x00\x03", 13, 3, 6)?;
     let t = refuse_first(
+        rt,
         t,
-        b"13, 00 00 03 03",
+        "13, 00 00 03 03",
         b"\x00\x00\x01\x00\x00\x03\x03",
         13,
         3,
         7,
-    );
-    let t = refuse_first(t, b"13, header 01", b"\x00\x00\x01\x01", 13, 3, 4);
-    let t = refuse_first(t, b"13, header 65", b"\x00\x00\x01\x65", 13, 3, 4);
-    let t = refuse_first(t, b"13, header A5", b"\x00\x00\x01\xA5", 13, 3, 4);
-    let t = refuse_first(t, b"13, header 06", b"\x00\x00\x01\x06\x05\x80", 13, 3, 6);
+    )?;
+    let t = refuse_first(rt, t, "13, header 01", b"\x00\x00\x01\x01", 13, 3, 4)?;
+    let t = refuse_first(rt, t, "13, header 65", b"\x00\x00\x01\x65", 13, 3, 4)?;
+    let t = refuse_first(rt, t, "13, header A5", b"\x00\x00\x01\xA5", 13, 3, 4)?;
     let t = refuse_first(
+        rt,
         t,
-        b"13, header 48",
+        "13, header 06",
+        b"\x00\x00\x01\x06\x05\x80",
+        13,
+        3,
+        6,
+    )?;
+    let t = refuse_first(
+        rt,
+        t,
+        "13, header 48",
         b"\x00\x00\x01\x48\xCE\x38\x80",
         13,
         3,
         7,
-    );
+    )?;
     refuse_first(
+        rt,
         t,
-        b"13, header 27",
+        "13, header 27",
         b"\x00\x00\x00\x01\x27\x64\x00\x0A\xF3\xDC\x9B\x01\x00\x00\x01",
         13,
         4,
@@ -198,60 +250,79 @@ pub fn headers() -> Tally {
 }
 
 // Has a set refused with 14 where the bit number `k` of it is changed; it stands alone behind a start code of four bytes.
-fn refuse_flipped(t: Tally, name: &[u8], set: &[u8], k: usize) -> Tally {
+fn refuse_flipped(
+    rt: &impl Print,
+    t: Tally,
+    name: &str,
+    set: &[u8],
+    k: usize,
+) -> io::Result<Tally> {
     let mut take = [0u8; 32];
     let n = put_all(&mut take, 0, set);
     flip(&mut take, k);
-    refuse_first(t, name, part(&take, 0, n), 14, 4, n)
+    refuse_first(rt, t, name, part(&take, 0, n), 14, 4, n)
 }
 
 // The same of each bit from the number 40 on, behind the header, to `to`.
-fn refuse_bits(t: Tally, name: &[u8], set: &[u8], to: usize) -> Tally {
+fn refuse_bits(rt: &impl Print, t: Tally, name: &str, set: &[u8], to: usize) -> io::Result<Tally> {
     let mut u = t;
     let mut k = 40;
     while k < to {
-        u = refuse_flipped(u, name, set, k);
+        u = refuse_flipped(rt, u, name, set, k)?;
         k += 1;
     }
-    u
+    Ok(u)
 }
 
 // 14: a sequence parameter set with a bit changed, cut short, and longer; one with another level.
-fn sequences() -> Tally {
+fn sequences(rt: &impl Print) -> io::Result<Tally> {
     let t = refuse_bits(
+        rt,
         none(),
-        b"14, SPS, a bit",
+        "14, SPS, a bit",
         b"\x00\x00\x00\x01\x67\x64\x00\x0A\xF3\xDC\x9B\x01",
         96,
-    );
-    let t = refuse_first(t, b"14, SPS, header alone", b"\x00\x00\x01\x67", 14, 3, 4);
+    )?;
     let t = refuse_first(
+        rt,
         t,
-        b"14, SPS, a byte short",
+        "14, SPS, header alone",
+        b"\x00\x00\x01\x67",
+        14,
+        3,
+        4,
+    )?;
+    let t = refuse_first(
+        rt,
+        t,
+        "14, SPS, a byte short",
         b"\x00\x00\x01\x67\x64\x00\x0A\xF3\xDC\x9B",
         14,
         3,
         10,
-    );
+    )?;
     let t = refuse_first(
+        rt,
         t,
-        b"14, SPS, a byte longer",
+        "14, SPS, a byte longer",
         b"\x00\x00\x01\x67\x64\x00\x0A\xF3\xDC\x9B\x01\x80",
         14,
         3,
         12,
-    );
+    )?;
     let t = refuse_first(
+        rt,
         t,
-        b"14, SPS, two zeros longer",
+        "14, SPS, two zeros longer",
         b"\x00\x00\x01\x67\x64\x00\x0A\xF3\xDC\x9B\x01\x00\x00\x03",
         14,
         3,
         14,
-    );
+    )?;
     refuse_first(
+        rt,
         t,
-        b"14, SPS, another level",
+        "14, SPS, another level",
         b"\x00\x00\x01\x67\x64\x00\x0B\xF3\xCB\x61\x0E\x6C\x04\x00\x00\x01",
         14,
         3,
@@ -260,33 +331,45 @@ fn sequences() -> Tally {
 }
 
 // The same of a picture parameter set.
-pub fn forms() -> Tally {
+pub fn forms(rt: &impl Print) -> io::Result<Tally> {
     let t = refuse_bits(
-        sequences(),
-        b"14, PPS, a bit",
+        rt,
+        sequences(rt)?,
+        "14, PPS, a bit",
         b"\x00\x00\x00\x01\x68\xCE\x38\x80",
         64,
-    );
-    let t = refuse_first(t, b"14, PPS, header alone", b"\x00\x00\x01\x68", 14, 3, 4);
+    )?;
     let t = refuse_first(
+        rt,
         t,
-        b"14, PPS, a byte short",
+        "14, PPS, header alone",
+        b"\x00\x00\x01\x68",
+        14,
+        3,
+        4,
+    )?;
+    let t = refuse_first(
+        rt,
+        t,
+        "14, PPS, a byte short",
         b"\x00\x00\x01\x68\xCE\x38",
         14,
         3,
         6,
-    );
+    )?;
     let t = refuse_first(
+        rt,
         t,
-        b"14, PPS, a byte longer",
+        "14, PPS, a byte longer",
         b"\x00\x00\x01\x68\xCE\x38\x80\x80",
         14,
         3,
         8,
-    );
+    )?;
     refuse_first(
+        rt,
         t,
-        b"14, PPS, two zeros longer",
+        "14, PPS, two zeros longer",
         b"\x00\x00\x01\x68\xCE\x38\x80\x00\x00\x03",
         14,
         3,
@@ -295,42 +378,52 @@ pub fn forms() -> Tally {
 }
 
 // Has a sequence parameter set behind a start code of four bytes refused with 15 where one of the size and kind `held` is held.
-fn refuse_other(t: Tally, name: &[u8], take: &[u8], held: Session) -> Tally {
+fn refuse_other(
+    rt: &impl Print,
+    t: Tally,
+    name: &str,
+    take: &[u8],
+    held: Session,
+) -> io::Result<Tally> {
     let n = take.len();
-    let t = refuse(t, name, take, at(0, sps_only(held)), 15, 4, n);
-    refuse(t, name, take, at(0, both(held)), 15, 4, n)
+    let t = refuse(rt, t, name, take, at(0, sps_only(held)), 15, 4, n)?;
+    refuse(rt, t, name, take, at(0, both(held)), 15, 4, n)
 }
 
 // 15: a sequence parameter set of another size or kind. The last differs in a single bit from that of 17 by 16, and where none is held it is taken.
-pub fn others() -> Tally {
+pub fn others(rt: &impl Print) -> io::Result<Tally> {
     let mono = b"\x00\x00\x00\x01\x67\x64\x00\x0A\xF3\xDC\x9B\x01";
-    let t = refuse_other(none(), b"15, another width", mono, mono8(17, 16));
-    let t = refuse_other(t, b"15, another height", mono, mono8(16, 15));
-    let t = refuse_other(t, b"15, another depth", mono, mono12(16, 16));
-    let t = refuse_other(t, b"15, another kind", mono, colour8(16, 16));
+    let t = refuse_other(rt, none(), "15, another width", mono, mono8(17, 16))?;
+    let t = refuse_other(rt, t, "15, another height", mono, mono8(16, 15))?;
+    let t = refuse_other(rt, t, "15, another depth", mono, mono12(16, 16))?;
+    let t = refuse_other(rt, t, "15, another kind", mono, colour8(16, 16))?;
     let t = refuse_other(
+        rt,
         t,
-        b"15, mono 12",
+        "15, mono 12",
         b"\x00\x00\x00\x01\x67\xF4\x00\x0A\xCA\x53\xDC\x9B\x01",
         mono8(16, 16),
-    );
+    )?;
     let t = refuse_other(
+        rt,
         t,
-        b"15, colour 8",
+        "15, colour 8",
         b"\x00\x00\x00\x01\x67\x42\x00\x0A\xFB\x93\x60\x20",
         mono8(16, 16),
-    );
+    )?;
     let t = refuse_other(
+        rt,
         t,
-        b"15, colour 12",
+        "15, colour 12",
         b"\x00\x00\x00\x01\x67\xF4\x00\x0A\xA2\x94\xF7\x26\xC0\x40",
         colour8(16, 16),
-    );
+    )?;
     let one = b"\x00\x00\x00\x01\x67\x64\x00\x0A\xF3\xCF\x61\x0E\x6C\x04";
-    let t = refuse_other(t, b"15, 33 by 16 for 17 by 16", one, mono8(17, 16));
+    let t = refuse_other(rt, t, "15, 33 by 16 for 17 by 16", one, mono8(17, 16))?;
     once(
+        rt,
         t,
-        b"15, 33 by 16 for none",
+        "15, 33 by 16 for none",
         one,
         at(0, nothing()),
         sps(4, mono8(33, 16)),
@@ -339,10 +432,18 @@ pub fn others() -> Tally {
 }
 
 // Has a picture refused with 16 while a set is missing.
-fn refuse_missing(t: Tally, name: &[u8], take: &[u8], place: usize, offset: usize) -> Tally {
+fn refuse_missing(
+    rt: &impl Print,
+    t: Tally,
+    name: &str,
+    take: &[u8],
+    place: usize,
+    offset: usize,
+) -> io::Result<Tally> {
     let n = take.len();
-    let t = refuse(t, name, take, at(place, nothing()), 16, offset, n);
+    let t = refuse(rt, t, name, take, at(place, nothing()), 16, offset, n)?;
     let t = refuse(
+        rt,
         t,
         name,
         take,
@@ -350,14 +451,14 @@ fn refuse_missing(t: Tally, name: &[u8], take: &[u8], place: usize, offset: usiz
         16,
         offset,
         n,
-    );
-    refuse(t, name, take, at(place, pps_only()), 16, offset, n)
+    )?;
+    refuse(rt, t, name, take, at(place, pps_only()), 16, offset, n)
 }
 
 // 16: a picture while no set, or only one, is held. It goes before 17.
-pub fn missing() -> Tally {
+pub fn missing(rt: &impl Print) -> io::Result<Tally> {
     let mut take = [0x10u8; ROOM];
     put_wide(&mut take);
-    let t = refuse_missing(none(), b"16, a picture", part(&take, 0, WIDE), 22, 26);
-    refuse_missing(t, b"16, header alone", b"\x00\x00\x01\x25", 0, 3)
+    let t = refuse_missing(rt, none(), "16, a picture", part(&take, 0, WIDE), 22, 26)?;
+    refuse_missing(rt, t, "16, header alone", b"\x00\x00\x01\x25", 0, 3)
 }

@@ -127,7 +127,7 @@ pub fn same_sets(a: HeldSets, b: HeldSets) -> bool {
 
 // An answer in numbers: its word, which is 0 for the end, the header byte of what was accepted, and 1 for a refusal; the number of a refusal; the
 // offset; the size and kind of a sequence parameter set. What an answer does not have is 0.
-#[derive(Drop)]
+#[derive(Clone, Copy)]
 pub struct Told {
     pub word: u32,
     pub number: u32,

@@ -8,6 +8,7 @@ use crate::state::{
 };
 use encoder::{Depths, Encoded};
 use slice::Strides;
+use std::io;
 use std::num::{wrapping_add_u64, wrapping_add_usize};
 use ycbcr_image::Session;
 
@@ -15,7 +16,7 @@ use ycbcr_image::Session;
 const ROOM: usize = 16000;
 
 // A lent plane: the bytes of a visible row, the bytes behind it up to the next row, all bytes lent, and the bytes of the visible rows stored tight.
-#[derive(Drop)]
+#[derive(Clone, Copy)]
 struct Plane {
     row: usize,
     skip: usize,
@@ -34,7 +35,7 @@ fn strided(row: usize, skip: usize, lent: usize, tight: usize) -> Plane {
 }
 
 // The pictures of a take: size and kind, the planes, Cb and Cr having the same numbers, and the bytes of the sequence parameter set with its header.
-#[derive(Drop)]
+#[derive(Clone, Copy)]
 struct Shots {
     size: Session,
     y: Plane,
@@ -152,15 +153,16 @@ fn lent_for(s: Shots, k: u64) -> Lent {
 
 // Reads the picture number `k`, whose header is at `offset`; the next start code, or the end, is at `next`.
 fn read_picture(
+    rt: &impl Print,
     c: Calls,
-    name: &[u8],
+    name: &str,
     take: &[u8],
     s: Shots,
     content: u64,
     k: u64,
     offset: usize,
     next: usize,
-) -> Calls {
+) -> io::Result<Calls> {
     let mut planes = [0u8; DRAWN];
     draw(&mut planes, content_of(content, k), seed(content, k));
     let mut y = [0u8; PLANE];
@@ -185,6 +187,7 @@ fn read_picture(
         b.tight,
     );
     judge(
+        rt,
         c,
         name,
         take,
@@ -198,25 +201,26 @@ fn read_picture(
 }
 
 // Reads the sets.
-fn read_sets(c: Calls, name: &[u8], take: &[u8], s: Shots) -> Calls {
+fn read_sets(rt: &impl Print, c: Calls, name: &str, take: &[u8], s: Shots) -> io::Result<Calls> {
     let size = s.size;
     let n = s.sps;
     let then = at(wrapping_add_usize(n, 5), sps_only(size));
-    let c = step(c, name, take, sps(4, size), then);
+    let c = step(rt, c, name, take, sps(4, size), then)?;
     let then = at(wrapping_add_usize(n, 13), both(size));
-    step(c, name, take, pps(wrapping_add_usize(n, 8)), then)
+    step(rt, c, name, take, pps(wrapping_add_usize(n, 8)), then)
 }
 
 // Reads a take whose second picture's bytes begin at `second`, and the third's at `third`; the end comes twice.
 fn read_back(
+    rt: &impl Print,
     t: Tally,
-    name: &[u8],
+    name: &str,
     take: &[u8],
     s: Shots,
     content: u64,
     second: usize,
     third: usize,
-) -> Tally {
+) -> io::Result<Tally> {
     let size = s.size;
     let n = take.len();
     let in_first = wrapping_add_usize(s.sps, 16);
@@ -224,13 +228,13 @@ fn read_back(
     let in_third = wrapping_add_usize(third, 4);
     let at_second = wrapping_add_usize(second, 1);
     let at_third = wrapping_add_usize(third, 1);
-    let c = read_sets(from(t, at(0, nothing())), name, take, s);
-    let c = read_picture(c, name, take, s, content, 0, in_first, at_second);
-    let c = read_picture(c, name, take, s, content, 1, in_second, at_third);
-    let c = read_picture(c, name, take, s, content, 2, in_third, n);
-    let c = step(c, name, take, end(), at(n, both(size)));
-    let c = step(c, name, take, end(), at(n, both(size)));
-    c.tally
+    let c = read_sets(rt, from(t, at(0, nothing())), name, take, s)?;
+    let c = read_picture(rt, c, name, take, s, content, 0, in_first, at_second)?;
+    let c = read_picture(rt, c, name, take, s, content, 1, in_second, at_third)?;
+    let c = read_picture(rt, c, name, take, s, content, 2, in_third, n)?;
+    let c = step(rt, c, name, take, end(), at(n, both(size)))?;
+    let c = step(rt, c, name, take, end(), at(n, both(size)))?;
+    Ok(c.tally)
 }
 
 // The first `n` bytes of a take.
@@ -239,75 +243,88 @@ fn first(take: &[u8; ROOM], n: usize) -> &[u8] {
 }
 
 // Writes a take and reads it back.
-fn judge_take(t: Tally, name: &[u8], s: Shots, content: u64) -> Tally {
+fn judge_take(rt: &impl Print, t: Tally, name: &str, s: Shots, content: u64) -> io::Result<Tally> {
     let mut take = [0x55u8; ROOM];
     let second = write_drawn(&mut take, 0, s, content, 0);
     let third = write_drawn(&mut take, second, s, content, 1);
     let n = write_drawn(&mut take, third, s, content, 2);
-    let t = counted(t, name, b"the writing", n <= ROOM);
-    read_back(t, name, first(&take, n), s, content, second, third)
+    let t = counted(rt, t, name, "the writing", n <= ROOM)?;
+    read_back(rt, t, name, first(&take, n), s, content, second, third)
 }
 
 // A take that begins with each content.
-fn judge_each(t: Tally, name: &[u8], s: Shots) -> Tally {
+fn judge_each(rt: &impl Print, t: Tally, name: &str, s: Shots) -> io::Result<Tally> {
     let mut u = t;
     let mut content = 0;
     while content < 4 {
-        u = judge_take(u, name, s, content);
+        u = judge_take(rt, u, name, s, content)?;
         content += 1;
     }
-    u
+    Ok(u)
 }
 
 // The same by the numbers.
-fn judge_shots(t: Tally, name: &[u8], size: Session, y: Plane, chroma: Plane, sps: usize) -> Tally {
+fn judge_shots(
+    rt: &impl Print,
+    t: Tally,
+    name: &str,
+    size: Session,
+    y: Plane,
+    chroma: Plane,
+    sps: usize,
+) -> io::Result<Tally> {
     let s = Shots {
         size: size,
         y: y,
         chroma: chroma,
         sps: sps,
     };
-    judge_each(t, name, s)
+    judge_each(rt, t, name, s)
 }
 
 // Takes in mono: the rows lent are as long as the padded ones, or three bytes longer.
-pub fn mono() -> Tally {
+pub fn mono(rt: &impl Print) -> io::Result<Tally> {
     let no = strided(0, 0, 0, 0);
     let t = judge_shots(
+        rt,
         none(),
-        b"mono 8, 1 by 1",
+        "mono 8, 1 by 1",
         mono8(1, 1),
         strided(1, 18, 304, 1),
         no,
         11,
-    );
+    )?;
     let t = judge_shots(
+        rt,
         t,
-        b"mono 8, 16 by 16",
+        "mono 8, 16 by 16",
         mono8(16, 16),
         strided(16, 0, 256, 256),
         no,
         8,
-    );
+    )?;
     let t = judge_shots(
+        rt,
         t,
-        b"mono 8, 17 by 16",
+        "mono 8, 17 by 16",
         mono8(17, 16),
         strided(17, 18, 560, 272),
         no,
         10,
-    );
+    )?;
     let t = judge_shots(
+        rt,
         t,
-        b"mono 12, 16 by 16",
+        "mono 12, 16 by 16",
         mono12(16, 16),
         strided(24, 0, 384, 384),
         no,
         9,
-    );
+    )?;
     judge_shots(
+        rt,
         t,
-        b"mono 12, 30 by 17",
+        "mono 12, 30 by 17",
         mono12(30, 17),
         strided(45, 6, 1632, 765),
         no,
@@ -316,34 +333,38 @@ pub fn mono() -> Tally {
 }
 
 // And in colour.
-pub fn colour() -> Tally {
+pub fn colour(rt: &impl Print) -> io::Result<Tally> {
     let t = judge_shots(
+        rt,
         none(),
-        b"colour 8, 16 by 16",
+        "colour 8, 16 by 16",
         colour8(16, 16),
         strided(16, 0, 256, 256),
         strided(8, 0, 64, 64),
         8,
-    );
+    )?;
     let t = judge_shots(
+        rt,
         t,
-        b"colour 8, 18 by 34",
+        "colour 8, 18 by 34",
         colour8(18, 34),
         strided(18, 17, 1680, 612),
         strided(9, 10, 456, 153),
         10,
-    );
+    )?;
     let t = judge_shots(
+        rt,
         t,
-        b"colour 12, 16 by 16",
+        "colour 12, 16 by 16",
         colour12(16, 16),
         strided(24, 0, 384, 384),
         strided(12, 0, 96, 96),
         10,
-    );
+    )?;
     judge_shots(
+        rt,
         t,
-        b"colour 12, 20 by 18",
+        "colour 12, 20 by 18",
         colour12(20, 18),
         strided(30, 21, 1632, 540),
         strided(15, 12, 432, 135),
