@@ -1,5 +1,5 @@
 -- Theorems over specs/PutCode.antt that rest on a definition which a must-fail edit of this crate changes. They stand here, so that the edit is read and refused.
-use Rattle.std.specs.Prelude.{◌≡◌, refl, List, ◌++◌, ℕ, ◌+◌, ◌-◌, length, drop}
+use Rattle.std.specs.Prelude.{◌≡◌, refl, List, ◌++◌, ℕ, length, drop}
 use Rattle.std.proofs.Common.{◌∙◌, zero-add}
 use Rattle.lists.specs.Fill.{splice_front}
 use Rattle.lists.specs.Part.{part, part_all}

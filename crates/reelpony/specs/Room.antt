@@ -6,7 +6,7 @@
 -- Then the laws that the code cites. Assumes nothing.
 use Rattle.std.specs.Prelude.{◌≡◌, List, Bool, ◌&&◌, ◌||◌, ℕ, ◌≤◌, length}
 use Rattle.std.proofs.Math.Path.{refl}
-use Rattle.std.proofs.Common.{sym, ap, ◌∙◌, true≢false, ne_eqb}
+use Rattle.std.proofs.Common.{sym, ap, true≢false, ne_eqb}
 use Rattle.std.proofs.Math.Bool.{true, false, cond}
 use native.Mathlib.Omega.{arith}
 use Rattle.std.proofs.Math.Dec.{eqb}
@@ -14,7 +14,7 @@ use Rattle.ycbcr_image.specs.declared.BitDepth.{BitDepth}
 use Rattle.ycbcr_image.specs.declared.Kind.{Kind}
 use Rattle.ycbcr_image.specs.Sizes.{sequence_of}
 use Rattle.ycbcr_image.specs.Shape.{of_shape, depths-alike}
-use Rattle.encoder.specs.Shot.{Shot, image_of}
+use Rattle.encoder.specs.Shot.{image_of}
 use Rattle.encoder.specs.Room.{room_of, Roomed, room_start, room_next}
 use Rattle.reelpony.specs.Numbers.{colour_known, depth_known, known, kind_of, bit_depth_of, Plane, shot_of, held_of, start_number, next_number}
 use Rattle.reelpony.specs.Code.{session}

@@ -5,8 +5,8 @@
 --     told_in, told-words  the answer that eight numbers say; an answer's numbers say it
 --     after_words         what a call of `reelpony_read` leaves in the reader's numbers is the place and what is held that the walk leaves
 -- Assumes nothing.
-use Rattle.std.specs.Prelude.{◌≡◌, refl, List, [], ◌∷◌, Bool, true, false, cond, ℕ, ◌+◌, eqb, get_or, drop}
-use Rattle.std.proofs.Common.{ap, ◌∙◌}
+use Rattle.std.specs.Prelude.{◌≡◌, refl, List, Bool, true, false, cond, ℕ, ◌+◌, eqb, get_or, drop}
+use Rattle.std.proofs.Common.{◌∙◌}
 use Rattle.std.proofs.Math.Option.{Option, none, some}
 use Rattle.nal_unit.specs.Calls.{Say, ended, astray, said, at}
 use Rattle.ycbcr_image.specs.declared.BitDepth.{BitDepth}

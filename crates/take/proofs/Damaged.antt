@@ -1,5 +1,5 @@
 -- Theorems over specs/Damaged.antt that rest on a definition which a must-fail edit of this crate changes. They stand here, so that the edit is read and refused.
-use Rattle.std.specs.Prelude.{◌≡◌, ℕ, ◌+◌, ◌-◌, take, replicate}
+use Rattle.std.specs.Prelude.{◌≡◌, ℕ, ◌+◌, ◌-◌, replicate}
 use mathlib.Core.List.{List, ◌∷◌, ◌++◌, map}
 use Rattle.std.proofs.Math.ListN.{length}
 use Rattle.nal_unit.specs.Calls.{ended}
@@ -11,7 +11,7 @@ use Rattle.take.specs.Reading.{listed}
 use Rattle.take.specs.Promises.{replaced}
 use Rattle.take.specs.Host.{Host, Call, Runs, served, Gets}
 use Rattle.take.proofs.Host.{fresh-get}
-use Rattle.take.specs.Damaged.{behind, Damaged, damaged}
+use Rattle.take.specs.Damaged.{behind, Damaged}
 
 -- The same for the code: what any calls over the damaged take answer and leave that were served.
 pub host_damaged : (H : Host) (T : Take) (A B : List Shot) (s : Shot) (C : List Shot) (i j : ℕ) (m : List ℕ) (d : Damaged T A B s C i j m) (cs : List (Call H)) (c : ℕ)

@@ -2,7 +2,7 @@
 use Rattle.std.specs.Prelude.{◌≡◌, refl, [], ◌∷◌, true, drop}
 use Rattle.std.proofs.Common.{arith}
 use Rattle.nal_unit.specs.StartCode.{code}
-use Rattle.nal_unit.specs.Calls.{said, at}
+use Rattle.nal_unit.specs.Calls.{said}
 use Rattle.nal_unit.specs.Frame.{joined, place_by}
 use Rattle.nal_unit.specs.Cut.{kept}
 use Rattle.reader.specs.Judge.{refused}

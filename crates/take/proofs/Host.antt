@@ -9,8 +9,7 @@ use Rattle.nal_unit.specs.StartCode.{code}
 use Rattle.nal_unit.specs.Calls.{ended, at, Turn, answers}
 use Rattle.nal_unit.specs.Cut.{kept}
 use Rattle.nal_unit.specs.Damage.{moved}
-use Rattle.reader.specs.declared.Answer.{Answer}
-use Rattle.reader.specs.Judge.{Held, nothing, Samples, Word, picture}
+use Rattle.reader.specs.Judge.{Held, nothing, Samples, Word}
 use Rattle.reader.specs.Read.{told, number_told, rooms, laid}
 use Rattle.reader.specs.Counted.{turn_leaves}
 use Rattle.reader.specs.Enough.{plain, turn_plain, turn_other, turn_or}
@@ -18,8 +17,9 @@ use Rattle.take.specs.Judged.{having}
 use Rattle.take.specs.Take.{Take, size_of, bytes_of, units_of, words_of}
 use Rattle.take.specs.Reading.{listed}
 use Rattle.take.specs.Promises.{round_trip, cut_says, picture_code, replaced}
-use Rattle.take.proofs.Promises.{cut, damage}
-use Rattle.take.specs.Host.{Planes, turn_over, Host, fresh, Call, Runs, served, Lends, Gets, handed_at, plain_of, served-plain, Unchanged, refusal, Got}
+use Rattle.take.proofs.Promises.{cut}
+use Rattle.take.specs.Promises.{damage}
+use Rattle.take.specs.Host.{Planes, turn_over, Host, Call, Runs, served, Lends, Gets, handed_at, plain_of, served-plain, Unchanged, refusal, Got}
 
 module _ (H : Host) where
   -- one call, and those behind it

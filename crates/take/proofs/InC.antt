@@ -1,11 +1,10 @@
 -- Theorems over specs/InC.antt that rest on a definition which a must-fail edit of this crate changes. They stand here, so that the edit is read and refused.
-use Rattle.std.specs.Prelude.{◌≡◌, refl, List, [], ◌∷◌, ◌++◌, map, Bool, true, false, ℕ, ◌+◌, eqb, length, take, drop, replicate}
+use Rattle.std.specs.Prelude.{◌≡◌, refl, List, [], ◌∷◌, ◌++◌, map, Bool, true, false, ℕ, ◌+◌, eqb, length, drop, replicate}
 use Rattle.std.proofs.Common.{ap, ◌∙◌, eqb-true}
-use Rattle.nal_unit.specs.Calls.{ended, at}
+use Rattle.nal_unit.specs.Calls.{ended}
 use Rattle.ycbcr_image.specs.declared.Session.{Session}
 use Rattle.ycbcr_image.specs.Refusals.{session_of}
 use Rattle.encoder.specs.Shot.{image_of}
-use Rattle.encoder.specs.Answers.{accepted}
 use Rattle.reelpony.specs.Numbers.{shot_in, held_of}
 use Rattle.take.specs.Take.{Take, units_of, words_of, bytes_of}
 use Rattle.take.specs.Reading.{listed}

@@ -1,13 +1,11 @@
 -- Theorems over specs/Numbers.antt that rest on a definition which a must-fail edit of this crate changes. They stand here, so that the edit is read and refused.
 use Rattle.std.specs.Prelude.{◌≡◌, List, [], ◌∷◌, map, length, drop}
 use Rattle.std.proofs.Common.{sym, ◌∙◌, append-nil, add-zero}
-use Rattle.ycbcr_image.specs.Form.{planes}
-use Rattle.reader.specs.Judge.{nothing, picture}
 use Rattle.take.specs.Take.{Take, size_of, bytes_of, units_of, words_of, frames}
 use Rattle.take.specs.Reading.{listed}
 use Rattle.take.specs.Host.{Host, Call, Runs, served, Gets}
 use Rattle.take.proofs.Host.{host-round_trip}
-use Rattle.take.specs.Numbers.{Sames, numbers, after, after_same}
+use Rattle.take.specs.Numbers.{Sames, after, after_same}
 
 -- Any calls over an accepted take, from its first byte with nothing held, of which one for each of its units was served: behind the first two of these, which
 -- answer the parameter sets, each leaves in the planes the numbers of the next picture, at each visible row and column.

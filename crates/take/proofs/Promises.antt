@@ -1,23 +1,17 @@
 -- Theorems over specs/Promises.antt that rest on a definition which a must-fail edit of this crate changes. They stand here, so that the edit is read and refused.
-use Rattle.std.specs.Prelude.{◌≡◌, refl, List, [], ◌∷◌, ◌++◌, map, true, ℕ, ◌+◌, ◌-◌, ◌≤◌, ◌<◌, length, take, drop, replicate}
-use Rattle.std.proofs.Common.{ap, ◌∙◌, arith, le-leb, take-append-drop, drop-drop, length-take-le}
+use Rattle.std.specs.Prelude.{◌≡◌, refl, List, [], ◌∷◌, ◌++◌, ℕ, ◌+◌, ◌-◌, ◌<◌, length, take, replicate}
+use Rattle.std.proofs.Common.{ap, arith, le-leb}
 use Rattle.std.proofs.lemmas.Bool.{lt-leb}
-use Rattle.lists.specs.Part.{part, part_length, part_rest}
-use Rattle.nal_unit.specs.StartCode.{start_code, code, code_fits}
-use Rattle.nal_unit.specs.Calls.{ended, said, answers}
+use Rattle.nal_unit.specs.Calls.{ended, answers}
 use Rattle.nal_unit.specs.Frame.{joined, place_by, place-joined}
 use Rattle.nal_unit.specs.Cut as C
 use Rattle.nal_unit.specs.Cut.{kept, broken, cut-exact, all, within}
-use Rattle.nal_unit.specs.Damage.{moved, front, damage_reads}
-use Rattle.encoder.specs.Shot.{lends_of}
-use Rattle.encoder.specs.Units.{sps_unit, pps_unit, picture_unit}
 use Rattle.reader.specs.Judge.{nothing}
 use Rattle.reader.specs.Enough.{plain}
-use Rattle.take.specs.Judged.{having}
-use Rattle.take.specs.Take.{Take, size_of, bytes_of, picture_units, units_of, words_of, bytes-units}
+use Rattle.take.specs.Take.{Take, bytes_of, units_of, words_of, bytes-units}
 use Rattle.take.proofs.Broken.{broken-said}
-use Rattle.take.specs.Reading.{listed, fits, full, take-goes, take-said, sets-goes, sets-held}
-use Rattle.take.specs.Promises.{kept-said, frame_behind, cut_says, Told, picture_code, replaced, first_coded}
+use Rattle.take.specs.Reading.{listed, take-goes, take-said}
+use Rattle.take.specs.Promises.{kept-said, frame_behind, cut_says, Told}
 
 cut-told : (T : Take) (n : ℕ) → C.Cut n (units_of T) (kept n (units_of T)) (broken n (units_of T)) → Told T n
 unfolding C.tell
@@ -50,28 +44,3 @@ cut T n k =
     let c = cut-told T n (cut-exact n us) in
     let r = C.cut plain n k nothing us (take-goes T) c.moves in
     rw (← bytes-units T, c.is, c.said) at r
-
--- Replace any stretch of a take behind the first picture's start code, the bytes from i up to j, by anything, m; and take any start code that stands wholly
--- behind it, at k. The reader, from the first byte with nothing held, arrives there after some calls, n; and from there on it answers, however often it is
--- called, what it answers there in the undamaged take, with the offsets moved by the change in length.
-pub damage : (T : Take) (i j k : ℕ) (m : List ℕ) → picture_code T ≤ i → i ≤ j → j ≤ k → code (drop k (bytes_of T)) ≡ true
-    → (n : ℕ) × ((c : ℕ) → answers plain (replaced (bytes_of T) i j m) (n + c) nothing 0
-    ≡ answers plain (replaced (bytes_of T) i j m) n nothing 0 ++ map (moved (j - i) (length m)) (answers plain (bytes_of T) c (having (size_of T) true) k))
-unfolding replaced picture_code picture_units
-damage T i j k m l a b c =
-    let s = bytes_of T in
-    let h = sets-held T [] in
-    let sets = sps_unit (size_of T) ∷ pps_unit ∷ [] in
-    let f = front sets (picture_unit (size_of T) (lends_of T.first) ++ joined (picture_units T.others) []) i (omega (arith, place-joined 0 sets)) in
-    let g : take i s ≡ joined sets (0 ∷ start_code f.0) = ap (λ (y : List ℕ). take i y) (first_coded T) ∙ f.1 in
-    let long : k + 3 ≤ length s = code_fits s k c in
-    let t : length (take i s) ≡ i = length-take-le i s (omega arith) in
-    let d : length (part s i (j - i)) ≡ j - i = part_length s i (j - i) (omega arith) in
-    let x : i + (j - i) ≡ j = omega arith in
-    let y : j + (k - j) ≡ k = omega arith in
-    let z : i + (j - i + (k - j)) ≡ k = omega arith in
-    let v : drop i s ≡ part s i (j - i) ++ drop j s = rw x at (part_rest s i (j - i)) in
-    let w : take i s ++ (part s i (j - i) ++ drop j s) ≡ s = rw v at (take-append-drop i s) in
-    let o : code (drop (k - j) (drop j s)) ≡ true = rw (drop-drop (k - j) j s) (rw y c) in
-    let r = damage_reads plain sets (take i s) f.0 (part s i (j - i)) m (drop j s) nothing (k - j) g (sets-goes T [] tt) (rw h (full (size_of T) (fits T))) o in
-    rw (t, d, w, z, h) at r

@@ -3,7 +3,7 @@
 --     cut_word i r     the answer where the cut leaves r bytes of the frame of unit i
 --     broken-said     so it is
 -- Assumes nothing.
-use Rattle.std.specs.Prelude.{◌≡◌, List, [], ◌∷◌, ◌++◌, true, false, cond, ℕ, suc, ◌+◌, ◌-◌, ◌<◌, leb, ltb, eqb, length, take}
+use Rattle.std.specs.Prelude.{◌≡◌, List, [], ◌∷◌, ◌++◌, true, false, cond, ℕ, suc, ◌<◌, leb, ltb, eqb, length, take}
 use Rattle.std.proofs.Math.Path.{refl, ap}
 use Rattle.std.proofs.Common.{arith, le-ltb}
 use Rattle.nal_unit.specs.Walk.{trim}

@@ -26,7 +26,7 @@ use Rattle.ycbcr_image.proofs.Passed.{passed}
 use Rattle.ycbcr_image.specs.Refusals.{accepted, size_bad, depths_bad, four_bad, odd_bad, height_bad, session_bad, stride_bad, rows_bad, shape_refusal, plane_refusal, first, chroma_refusal, planes_refusal, refusal_of, refusal_next}
 use Rattle.slice.specs.Cat.{cat}
 use Rattle.slice.specs.Layout.{block_row, block, mb, mb_at, head, macroblock, slice_of}
-use Rattle.slice.specs.Header.{header_of, header_is}
+use Rattle.slice.specs.Header.{header_is}
 use Rattle.slice.specs.Picture.{planes_in, picture_of}
 use Rattle.encoder.specs.declared.Encoded.TheVariants.{Written, NoRoom}
 use Rattle.encoder.specs.Shot.{Shot, lent, image_of, lends_of, sequence_in}

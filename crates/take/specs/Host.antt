@@ -10,12 +10,11 @@
 --     host-round_trip, host-cut, host_damage     the promises so
 --     host-refused      a refusal changes no byte of the planes and nothing that is held, 19 not even the place
 -- Assumes nothing.
-use Rattle.std.specs.Prelude.{◌≡◌, false, cond, ℕ, ◌+◌, ◌-◌, eqb, take, drop}
+use Rattle.std.specs.Prelude.{◌≡◌, false, cond, ℕ, ◌+◌, eqb, drop}
 use Rattle.std.proofs.Math.Path.{refl, ap}
 use Rattle.std.proofs.Common.{◌∙◌}
 use mathlib.Core.List.{List, [], ◌∷◌}
-use Rattle.nal_unit.specs.Calls.{Say, ended, astray, said, at, Turn, turn, answers}
-use Rattle.nal_unit.specs.Damage.{moved}
+use Rattle.nal_unit.specs.Calls.{Say, ended, astray, said, at, Turn, turn}
 use Rattle.reader.specs.declared.HeldSps.TheVariants.{Missing}
 use Rattle.reader.specs.declared.Reader.{Reader}
 use Rattle.reader.specs.declared.Answer.{Answer}

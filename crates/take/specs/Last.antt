@@ -1,5 +1,5 @@
 -- Every payload of a take ends in a nonzero byte, so its units are whole (the frame law of crate nal_unit applies). Assumes nothing.
-use Rattle.std.specs.Prelude.{◌≡◌, refl, List, [], ◌∷◌, ◌++◌, ℕ, suc, ◌+◌, ◌-◌, ◌<◌, length, get_or}
+use Rattle.std.specs.Prelude.{◌≡◌, refl, List, [], ◌∷◌, ◌++◌, ℕ, suc, ◌-◌, ◌<◌, length, get_or}
 use Rattle.std.proofs.Common.{◌∙◌, append_assoc, arith, length-append}
 use Rattle.bits.specs.Bits.{low_bits, value_from}
 use Rattle.bits.specs.Pack.{packed}

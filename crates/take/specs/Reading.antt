@@ -1,6 +1,6 @@
 -- Reading a take with planes that are long enough (reader, Enough: `plain`): with both sets held no unit changes them, the units of a take are met whole, and
 -- each is answered with its word. Assumes nothing.
-use Rattle.std.specs.Prelude.{◌≡◌, Bool, false, cond, ℕ, ◌+◌, ltb, eqb}
+use Rattle.std.specs.Prelude.{◌≡◌, false, ℕ, ◌+◌, ltb, eqb}
 use Rattle.std.proofs.Math.Path.{refl, ap}
 use Rattle.std.proofs.Common.{◌∙◌}
 use mathlib.Core.List.{List, [], ◌∷◌}

@@ -11,8 +11,8 @@
 --     no_refusing_always ..            none of these meets the contract
 --     honest                           which the definitions themselves do
 -- Assumes nothing.
-use Rattle.std.specs.Prelude.{◌≡◌, refl, List, [], ◌∷◌, ◌++◌, Bool, true, false, cond, ◌&&◌, ℕ, zero, suc, ◌-◌, ◌^◌, ◌≤◌, ◌<◌, T, leb, ltb, length, take, drop, replicate, get_or}
-use Rattle.std.proofs.Common.{sym, ap, ◌∙◌, arith, ltb→lt, length-append, take_at, ne_eqb}
+use Rattle.std.specs.Prelude.{◌≡◌, refl, List, [], ◌∷◌, ◌++◌, Bool, true, false, ◌&&◌, ℕ, zero, suc, ◌-◌, ◌^◌, ◌≤◌, ◌<◌, T, ltb, length, take, drop, replicate, get_or}
+use Rattle.std.proofs.Common.{sym, ap, ◌∙◌, arith, ltb→lt, length-append, take_at}
 use Rattle.std.proofs.lemmas.List.{length-replicate}
 use Rattle.lists.specs.Every.{Below, below_nil, below_cons}
 use Rattle.lists.specs.Test.{left, right}
@@ -22,7 +22,7 @@ use Rattle.nal_unit.specs.Calls.{at, said, turn, turn_unit}
 use Rattle.ycbcr_image.specs.declared.Session.{Session}
 use Rattle.ycbcr_image.specs.Sizes.{Sequence, sequence_of}
 use Rattle.encoder.specs.declared.Encoded.{Encoded}
-use Rattle.encoder.specs.declared.Encoded.TheVariants.{Written, NoRoom}
+use Rattle.encoder.specs.declared.Encoded.TheVariants.{Written}
 use Rattle.encoder.specs.Shot.{Shot, image_of, lends_of, sequence_in}
 use Rattle.encoder.specs.Units.{start_bytes, next_bytes}
 use Rattle.encoder.specs.Answers.{number_of, length_of, answer_of, zero-written, start_of, start_out, next_of, next_out}

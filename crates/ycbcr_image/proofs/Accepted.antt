@@ -1,5 +1,5 @@
 -- Theorems over specs/Accepted.antt that rest on a definition which a must-fail edit of this crate changes. They stand here, so that the edit is read and refused.
-use Rattle.std.specs.Prelude.{◌≡◌, refl, true, ℕ, ◌-◌}
+use Rattle.std.specs.Prelude.{◌≡◌, refl, true, ℕ}
 use Rattle.std.proofs.Common.{arith}
 use Rattle.ycbcr_image.specs.declared.BitDepth.{BitDepth}
 use Rattle.ycbcr_image.specs.declared.Kind.{Kind}
