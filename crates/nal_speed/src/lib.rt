@@ -1,5 +1,6 @@
 // Exports for measuring alone: host/speed/nal.c times them beside memcpy. A host links the crate `reelpony` instead.
 #![tactic(auto)]
+
 ghost use Rattle.std.specs.Prelude.{◌≡◌, ◌+◌, drop};
 ghost use Rattle.nal_unit.specs.StartCode.{next};
 ghost use Rattle.nal_unit.specs.Answers.{length_of, escaped_of, escaped_out, unescaped_length, unescape_of, unescaped_out};
