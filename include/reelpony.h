@@ -1,6 +1,6 @@
 /* reelpony.h: pictures into an H.264 byte stream, uncompressed (I_PCM), and back.
  *
- * The library is target/staticlib/libreelpony.a, made by `rt staticlib reelpony` at the repository's root, for x86-64.
+ * The library is target/staticlib/libreelpony.a, made by `host/prove-library` at the repository's root, for x86-64.
  * It allocates nothing, keeps nothing between calls, and touches nothing but what is lent to it.
  *
  * A take is the bytes of an accepted reelpony_start, then those of each accepted reelpony_next, one behind the other in a file.

@@ -1,5 +1,5 @@
 //! Links the proved library, libreelpony.a: from the folder that REELPONY_LIB_DIR names, or else from
-//! the repository's target/staticlib, where `rt staticlib` leaves it.
+//! the repository's target/staticlib, where `host/prove-library` leaves it.
 //!
 //! A library that is missing is a warning here and no error, since `cargo check` and `cargo doc` do
 //! without it. Where it is wanted, rustc says that it could not find it: the archive is bundled into
@@ -30,7 +30,7 @@ fn main() {
         };
         println!(
             "cargo:warning={missing}: check and doc work, nothing can be linked. To prove and \
-             build it, at Reelpony's root: rt staticlib reelpony (it leaves the file in \
+             build it, at Reelpony's root: host/prove-library (it leaves the file in \
              target/staticlib)"
         );
     }

@@ -441,7 +441,7 @@ mod tests {
 
     /// The functions that a proved source exports under their own names.
     fn exports(source: &str) -> Vec<Function> {
-        let begin = "#[no_mangle]\npub extern \"C\" fn reelpony_";
+        let begin = "#[unsafe(no_mangle)]\npub extern \"C\" fn reelpony_";
         let export = |text: &str| {
             let (name, text) = text.split_once('(').expect("a parenthesis");
             let (parameters, after) = text.split_once(')').expect("its end");
@@ -455,11 +455,11 @@ mod tests {
         found
     }
 
-    /// What the proofs are about is what the header declares: the types of crates/reelpony are the
+    /// What the proofs are about is what the header declares: the types of crates/reelpony_c are the
     /// contracts' own.
     #[test]
     fn the_proved_source_is_the_headers() {
-        let folder = common::root().join("crates/reelpony/src");
+        let folder = common::root().join("crates/reelpony_c/src");
         let files = fs::read_dir(folder).unwrap().map(|file| file.unwrap().path());
         let sources = files.map(|file| fs::read_to_string(file).unwrap());
         let mut found: Vec<Function> = sources.flat_map(|source| exports(&source)).collect();

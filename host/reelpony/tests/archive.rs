@@ -66,7 +66,7 @@ fn without(
         assert_eq!(warnings.len(), 1, "{command}: {said}");
         let warning = warnings.first().unwrap();
         assert!(warning.contains(missing), "{command}: {warning}");
-        assert!(warning.contains("rt staticlib reelpony"), "{command}: {warning}");
+        assert!(warning.contains("host/prove-library"), "{command}: {warning}");
         assert!(warning.contains("REELPONY_LIB_DIR"), "{command}: {warning}");
         let error = "error: could not find native static library `reelpony`";
         assert_eq!(said.contains(error), command == "build", "{command}: {said}");
