@@ -148,7 +148,8 @@ fn lacking(
     requires before_le_sets_most { before ≤ sets_most }
     ensures { result ≡ lack (before + length (picture_bytes (sequence_of s) (lends y.now cb.now cr.now strides))) room }
 {
-    if before + picture_most(s) <= room {
+    let most = before + picture_most(s);
+    if most <= room {
         return 0;
     }
     let need = before + picture_len(y, cb, cr, strides, s);

@@ -102,7 +102,8 @@ fn mapped(x: i32) -> u32
     requires { nat_abs x ≤ 2 ^ 31 - 1 }
     ensures { result ≡ Signed·mapped x }
 {
-    if x > 0 {
+    let above = x > 0;
+    if above {
         2 * (x as u32) - 1
     } else {
         2 * (-x as u32)
@@ -114,7 +115,8 @@ pub fn write_se(buffer: &mut [u8], place: usize, x: i32) -> CodeWritten
     ensures answer { result ≡ write_of (has_se x) (se x) buffer.old place }
     ensures bytes { buffer.new ≡ buffer_of (write_of (has_se x) (se x) buffer.old place) (se x) buffer.old place }
 {
-    if x == -2147483648 {
+    let least = x == -2147483648;
+    if least {
         return CodeWritten::NoCode;
     }
     put_code(buffer, place, mapped(x))
@@ -158,7 +160,8 @@ fn unmapped(k: u32) -> i32
     requires { k ≤ 2 ^ 32 - 2 }
     ensures { result ≡ Signed·unmapped k }
 {
-    if k % 2 == 1 {
+    let odd = k % 2 == 1;
+    if odd {
         ((k + 1) / 2) as i32
     } else {
         -((k / 2) as i32)

@@ -56,7 +56,8 @@ fn put64(s: &[u8], p: usize, out: &mut [u8], at: usize) -> usize
     let z = calm::zeros_before(&*out, at);
     if z > 0 {
         if calm::void(s, p, 64) {
-            if z == 1 {
+            let one = z == 1;
+            if one {
                 return put_zeros1(out, at);
             }
             return put_zeros2(out, at);

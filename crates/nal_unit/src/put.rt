@@ -10,7 +10,8 @@ fn wants3(out: &[u8], at: usize, b: u8) -> bool
     requires { at ≤ length out.now }
     ensures { result ≡ inserts (counted out.now at) b }
 {
-    if b > 3 {
+    let large = b > 3;
+    if large {
         return false;
     }
     if at < 2 {

@@ -240,7 +240,8 @@ pub fn unit_scan(s: &[u8], from: usize) -> UnitScan
     let calm = found.calm;
     let end = next_code(s, fault);
     let stop = trim_end(s, from, end);
-    if fault + 3 <= stop {
+    let bad = fault + 3 <= stop;
+    if bad {
         return UnitScan {
             end,
             stop,

@@ -7,11 +7,11 @@ use Rattle.encoder.proofs.lacking.Goals as goal
 pub picture_most-requires : goal.picture_most-requires
 picture_most-requires c = c.requires.ready.fine
 
-pub overflow_add-before : goal.overflow_add-before
-overflow_add-before c = omega (arith, c.picture_most.ensures, most_few c.requires.ready.fine, c.requires.before_le_sets_most)
+pub overflow_add-most : goal.overflow_add-most
+overflow_add-most c = omega (arith, c.picture_most.ensures, most_few c.requires.ready.fine, c.requires.before_le_sets_most)
 
-pub returns-then-before-picture_most : goal.returns-then-before-picture_most
-returns-then-before-picture_most c = lack_none _ _ (omega (arith, c.if-before-picture_most.true, c.picture_most.ensures, picture_within c.requires.ready))
+pub returns-then-most-room : goal.returns-then-most-room
+returns-then-most-room c = lack_none _ _ (omega (arith, c.if-most-room.true, c.picture_most.ensures, picture_within c.requires.ready))
 
 pub overflow_add-need : goal.overflow_add-need
 overflow_add-need c = omega (arith, c.picture_len.ensures, picture_few c.requires.ready, c.requires.before_le_sets_most)

@@ -19,12 +19,12 @@ minus n h = ap (λ (z : ℤ). pos 0 -ℤ z) (to_z_pos w32 h) ∙ +ℤ_idl (neg_�
 pub overflow_sub-result : goal.overflow_sub-result
 overflow_sub-result c = rw (minus (c.args.k / 2) (omega arith)) (small (c.args.k / 2) (omega arith))
 
-pub returns-then-k-eq1 : goal.returns-then-k-eq1
+pub returns-then-odd : goal.returns-then-odd
 unfolding unmapped
-returns-then-k-eq1 c = rw (eq-eqb (c.args.k % 2) 1 c.if-k-eq1.true) (to_z_pos w32 (omega arith))
+returns-then-odd c = rw (eq-eqb (c.args.k % 2) 1 c.if-odd.true) (to_z_pos w32 (omega arith))
 
-pub returns-else-k-eq1 : goal.returns-else-k-eq1
+pub returns-else-odd : goal.returns-else-odd
 unfolding unmapped
-returns-else-k-eq1 c =
+returns-else-odd c =
     let n : c.args.k / 2 < 2 ^ 31 = omega arith in
-    rw (ne_eqb (c.args.k % 2) 1 c.if-k-eq1.false) (ap (λ (z : ℤ). to_z w32 (of_z w32 z)) (minus (c.args.k / 2) n) ∙ to_z-of_z (small (c.args.k / 2) n))
+    rw (ne_eqb (c.args.k % 2) 1 c.if-odd.false) (ap (λ (z : ℤ). to_z w32 (of_z w32 z)) (minus (c.args.k / 2) n) ∙ to_z-of_z (small (c.args.k / 2) n))

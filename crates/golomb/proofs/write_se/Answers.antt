@@ -25,19 +25,19 @@ code : (x : ℤ) → nat_abs x ≤ 2 ^ 31 - 1 → has_se x ≡ true
 unfolding has_se
 code x h = le-leb (nat_abs x) (2 ^ 31 - 1) h
 
-pub returns-then-x-eqminus2147483648 : goal.returns-then-x-eqminus2147483648
-returns-then-x-eqminus2147483648 c =
-    let n = no_code c.args.x c.ranges.x c.if-x-eqminus2147483648.true in
+pub returns-then-least : goal.returns-then-least
+returns-then-least c =
+    let n = no_code c.args.x c.ranges.x c.if-least.true in
     let e = write_none (se c.args.x) c.args.buffer.now c.args.place in record { answer = rw n (sym e); bytes = rw (n, e) refl }
 
 few1 : (c : goal.After-put_code-arg-1) → nat_abs c.args.x ≤ 2 ^ 31 - 1
-few1 c = small c.args.x c.ranges.x c.if-x-eqminus2147483648.false
+few1 c = small c.args.x c.ranges.x c.if-least.false
 
 few2 : (c : goal.After-mapped) → nat_abs c.args.x ≤ 2 ^ 31 - 1
-few2 c = small c.args.x c.ranges.x c.if-x-eqminus2147483648.false
+few2 c = small c.args.x c.ranges.x c.if-least.false
 
 few3 : (c : goal.After-slice_known-2-1) → nat_abs c.args.x ≤ 2 ^ 31 - 1
-few3 c = small c.args.x c.ranges.x c.if-x-eqminus2147483648.false
+few3 c = small c.args.x c.ranges.x c.if-least.false
 
 pub mapped-requires : goal.mapped-requires
 mapped-requires c = subst (λ (z : ℤ). nat_abs z ≤ 2 ^ 31 - 1) (sym (to_z-of_z c.ranges.x)) (few1 c)

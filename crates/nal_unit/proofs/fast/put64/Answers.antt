@@ -12,7 +12,7 @@ all_zero1 : (c : goal.After-put_zeros1-arg-1) → part c.args.s.now c.args.p 64 
 all_zero1 c =
     zero-part c.args.s.now c.args.p 64 c.requires.le_p.1 (sym c.void.ensures ∙ c.if-void.true)
 
-all_zero2 : (c : goal.After-slice_known-then-z-eq1-1) → part c.args.s.now c.args.p 64 ≡ blanks 64
+all_zero2 : (c : goal.After-slice_known-then-one-1) → part c.args.s.now c.args.p 64 ≡ blanks 64
 all_zero2 c =
     zero-part c.args.s.now c.args.p 64 c.requires.le_p.1 (sym c.void.ensures ∙ c.if-void.true)
 
@@ -55,14 +55,14 @@ returns-then-calm c =
 
 pub put_zeros1-requires : goal.put_zeros1-requires
 put_zeros1-requires c =
-    let z = c.zeros_before-z in record { at_value = sym z.ensures ∙ c.if-z-eq1.true; at_in_bounds = zero_room1 c }
+    let z = c.zeros_before-z in record { at_value = sym z.ensures ∙ c.if-one.true; at_in_bounds = zero_room1 c }
 
-pub returns-then-z-eq1 : goal.returns-then-z-eq1
-returns-then-z-eq1 c = rw (all_zero2 c) c.put_zeros1.ensures
+pub returns-then-one : goal.returns-then-one
+returns-then-one c = rw (all_zero2 c) c.put_zeros1.ensures
 
 pub put_zeros2-requires : goal.put_zeros2-requires
 put_zeros2-requires c =
-    let z = c.zeros_before-z in record { at_value = sym z.ensures ∙ not_one z.result c.if-z-eq1.false (omega arith) (rw z.ensures (counted_most c.args.out.now c.args.at)); at_in_bounds = zero_room2 c }
+    let z = c.zeros_before-z in record { at_value = sym z.ensures ∙ not_one z.result c.if-one.false (omega arith) (rw z.ensures (counted_most c.args.out.now c.args.at)); at_in_bounds = zero_room2 c }
 
 pub returns-then-void : goal.returns-then-void
 returns-then-void c = rw (all_zero4 c) c.put_zeros2.ensures

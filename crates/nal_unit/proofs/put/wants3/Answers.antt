@@ -9,8 +9,8 @@ use Rattle.nal_unit.proofs.put.wants3.Goals as goal
 at_two : (d : List ℕ) (at b : ℕ) → 2 ≤ at → at ≤ length d → inserts (counted d at) b ≡ eqb (get_or d (at - 2) 0) 0 && (eqb (get_or d (at - 1) 0) 0 && leb b 3)
 at_two d at b h l = inserts_at d at (at - 1) (at - 2) b (omega arith) (omega arith) l
 
-pub returns-then-b-gt3 : goal.returns-then-b-gt3
-returns-then-b-gt3 c = sym (inserts-high (counted c.args.out.now c.args.at) c.args.b c.if-b-gt3.true)
+pub returns-then-large : goal.returns-then-large
+returns-then-large c = sym (inserts-high (counted c.args.out.now c.args.at) c.args.b c.if-large.true)
 
 pub returns-then-at-lt2 : goal.returns-then-at-lt2
 returns-then-at-lt2 c = let a = c.args in sym (inserts_few (counted a.out.now a.at) a.b (omega (arith, counted_few a.out.now a.at)))

@@ -15,16 +15,16 @@ trim_end-stop-requires c =
     let d = length-drop c.args.from s in
     let g = c.seek-found.ensures.fault in record { from_le_end = omega (arith, g); end_in_bounds = omega (arith, first_le (drop c.args.from s), d, next_le (drop f s), length-drop f s, g, c.next_code-end.ensures) }
 
-pub overflow_add-fault : goal.overflow_add-fault
-overflow_add-fault c =
+pub overflow_add-bad : goal.overflow_add-bad
+overflow_add-bad c =
     omega (arith, first_le (drop c.args.from c.args.s.now), length-drop c.args.from c.args.s.now, c.seek-found.ensures.fault, c.well_formed)
 
-pub returns-then-fault-stop : goal.returns-then-fault-stop
-returns-then-fault-stop c =
+pub returns-then-bad : goal.returns-then-bad
+returns-then-bad c =
     unit-faulty c.args.s.now c.args.from c.next_code-end.result c.trim_end-stop.result c.seek-found.result
-    c.seek-found.ensures c.next_code-end.ensures (omega arith) c.trim_end-stop.ensures c.if-fault-stop.true
+    c.seek-found.ensures c.next_code-end.ensures (omega arith) c.trim_end-stop.ensures c.if-bad.true
 
 pub returns : goal.returns
 returns c =
     unit_whole c.args.s.now c.args.from c.next_code-end.result c.trim_end-stop.result c.seek-found.result
-    c.seek-found.ensures c.next_code-end.ensures (omega arith) c.trim_end-stop.ensures c.if-fault-stop.false
+    c.seek-found.ensures c.next_code-end.ensures (omega arith) c.trim_end-stop.ensures c.if-bad.false
