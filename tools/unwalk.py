@@ -12,9 +12,9 @@ import glob
 import json
 import os
 import re
+import subprocess
 import sys
 
-COMMON = "/opt/rattle/rattle/std/proofs/Common.antt"
 WORD = r"[^\s(){}.;,@\"«»\[\]\\]+"
 OURS = re.compile(r"^(mathlib\.Core|Prim\.Native|native\.Mathlib|lib\.|borrow\.Author)")
 
@@ -29,8 +29,10 @@ def read(path):
 
 
 def common_names():
+    """What the library's module Common passes on; `rt doc` tells where the kit is."""
+    kit = os.path.dirname(subprocess.run(["rt", "doc"], capture_output=True, text=True, check=True).stdout.strip())
     out = set()
-    for m in re.finditer(r"^pub use ([^\s{]+)\.\{([^}]*)\}", read(COMMON), re.M):
+    for m in re.finditer(r"^pub use ([^\s{]+)\.\{([^}]*)\}", read(os.path.join(kit, "rattle/std/proofs/Common.antt")), re.M):
         for n in m.group(2).split(","):
             n = n.strip()
             out.add(n.split(" as ")[-1])
