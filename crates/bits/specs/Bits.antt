@@ -1,8 +1,8 @@
 -- Bits as lists of 0 and 1, the most significant first (the standard's order, 7.2).
---     low_bits n v      the number v in n bits
---     bits_of s         the bits of the bytes s
+--     low_bits n v     the number v in n bits
+--     bits_of s        the bits of the bytes s
 --     value bs         the number that the bits bs spell
---     bit_count s       how many bits of the buffer s have a place
+--     bit_count s      how many bits of the buffer s have a place
 -- Assumes nothing.
 use Rattle.std.specs.Prelude.{◌≡◌, refl, List, [], ◌∷◌, ◌++◌, Bool, true, false, ℕ, zero, suc, ◌+◌, ◌-◌, ◌*◌, ◌/◌, ◌%◌, ◌^◌, ◌≤◌, ◌<◌, min, leb, length, take, drop, get_or, set, replicate}
 use Rattle.std.proofs.Common.{sym, ap, ◌∙◌, append_assoc, add-zero, mod-lt, mod-eq_of_lt, pow-suc, mul-le-mul_right, zero-add, suc-add, le_of_suc-le-suc, one-add, arith, le-leb, leb-true, leb-false, length-append, length-take, length-drop, drop_of_length-le, get_or-append-add, get_or-take, take_all, pow_mono}

@@ -1,11 +1,11 @@
 -- What a call of the writer answers, and what it leaves (paper 01, "Writer's refusals").
---     number_of, length_of      the paper's number of an answer, 0 where the call is accepted, and its length
---     session_after            the session that it leaves, where s was held: only an accepted call changes it
---     case_of, encoded_one     an answer is known by its case, its number, its length and its session
---     answer_of, out_of         of a call that 1 to 8 refuse with r, 0 for none, and that would write w: the answer, and the output, which held d
+--     number_of, length_of    the paper's number of an answer, 0 where the call is accepted, and its length
+--     session_after           the session that it leaves, where s was held: only an accepted call changes it
+--     case_of, encoded_one    an answer is known by its case, its number, its length and its session
+--     answer_of, out_of       of a call that 1 to 8 refuse with r, 0 for none, and that would write w: the answer, and the output, which held d
 --     Outcome, outcome        that answer and output by cases: accepted, no room, refused. An answer of 0 is the first (zero-written)
---     start_of, start_out       the start call: SPS, PPS and the first picture
---     next_of, next_out         the next call in a session: one picture
+--     start_of, start_out     the start call: SPS, PPS and the first picture
+--     next_of, next_out       the next call in a session: one picture
 -- Assumes nothing.
 use Rattle.std.specs.Prelude.{◌≡◌, refl, List, ◌++◌, Bool, true, false, cond, ℕ, ◌≤◌, ◌<◌, eqb, leb, length, drop}
 use Rattle.std.proofs.Common.{sym, ap, ◌∙◌, arith, eqb-true, leb-true, leb-false}

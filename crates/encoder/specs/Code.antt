@@ -1,5 +1,5 @@
 -- Laws of the two calls that their code cites.
---     sets, picture_bytes      the bytes of the parameter sets' units, and of a picture's
+--     sets, picture_bytes     the bytes of the parameter sets' units, and of a picture's
 --     start_is, next_is       what the calls write is made of them
 --     lack n room             0 where n bytes have room, else n
 -- Assumes nothing.

@@ -1,7 +1,7 @@
 -- The room with which no call is refused with 9, whatever the samples: escaping adds at most half as many bytes again (nal_unit, Escape: esc_most).
---     sets_most                     the most that the units of both parameter sets have
---     picture_most q                the most that a picture's unit has: start code and header byte, the payload, half as many bytes again
---     room_of q                     both; 0 for a size that no call accepts
+--     sets_most                    the most that the units of both parameter sets have
+--     picture_most q               the most that a picture's unit has: start code and header byte, the payload, half as many bytes again
+--     room_of q                    both; 0 for a size that no call accepts
 --     room_enough                  what a call writes has no more
 --     Roomed, room_start, room_next     so a call with that room is not refused with 9, and it is 0 exactly where the call is refused with 1 to 5
 -- Assumes nothing.

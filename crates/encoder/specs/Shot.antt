@@ -1,7 +1,7 @@
 -- A picture as a host lends it to a call, and when the call is accepted (paper 01, "Pictures accepted" and "Writer's refusals").
 --     Lent, Shot             a lent plane with its bytes, stride and depth; a picture of three of them
---     image_of, lends_of       its numbers, by which the refusals go; its bytes, which the payload is made of
---     sequence_in             what it says of the take: size and kind
+--     image_of, lends_of     its numbers, by which the refusals go; its bytes, which the payload is made of
+--     sequence_in            what it says of the take: size and kind
 --     shot                   the picture of a call's arguments
 --     shot_whole             a picture that passes 1 to 8 is lent whole
 -- Assumes nothing.

@@ -1,7 +1,7 @@
 -- The units of a take (paper 01, "The bits of a take"): each is 00 00 00 01, a header byte, the escaped payload (7.3.1, Annex B).
---     sps_unit, pps_unit, picture_unit     a unit's header byte and escaped payload
---     start_bytes q L                    what a start call writes: SPS, PPS, the first picture
---     next_bytes q L                     what a next call writes: one picture
+--     sps_unit, pps_unit, picture_unit  a unit's header byte and escaped payload
+--     start_bytes q L                   what a start call writes: SPS, PPS, the first picture
+--     next_bytes q L                    what a next call writes: one picture
 -- Assumes nothing.
 use Rattle.std.specs.Prelude.{List, [], ◌∷◌, ℕ}
 use Rattle.nal_unit.specs.Escape.{esc}

@@ -1,6 +1,5 @@
 -- What the public calls answer, in the numbers and values of paper 01, and what they leave in the buffer.
 -- Assumes nothing.
--- ---- writing
 use Rattle.std.specs.Prelude.{◌≡◌, refl, List, Bool, true, false, cond, ◌&&◌, ℕ, ◌+◌, ◌-◌, ◌^◌, ◌≤◌, ◌<◌, leb, ℤ, nat_abs, length}
 use Rattle.std.proofs.Common.{arith, le-leb}
 use Rattle.std.proofs.lemmas.Bool.{lt-leb}
@@ -18,6 +17,8 @@ use Rattle.golomb.specs.declared.SeRead.{SeRead}
 use Rattle.golomb.specs.declared.SeRead.TheVariants as Se
 use Rattle.golomb.specs.declared.BitsRead.{BitsRead}
 use Rattle.golomb.specs.declared.BitsRead.TheVariants as U
+
+-- ---- writing
 
 -- 20: no code exists for the number, tested first; 21: no room
 abbrev pub written : CodeWritten → ℕ

@@ -1,5 +1,5 @@
 -- The unsigned Exp-Golomb code (9.1), in the words of paper 01: let v = x + 1 with n bits; n - 1 zeros, then v.
---     num_bits v    how many binary digits v has, 1 for 0
+--     num_bits v   how many binary digits v has, 1 for 0
 --     ue x         the code of x
 -- Assumes nothing.
 use Rattle.std.specs.Prelude.{◌≡◌, refl, List, ◌∷◌, ◌++◌, true, false, ℕ, zero, suc, ◌+◌, ◌-◌, ◌*◌, ◌/◌, ◌^◌, ◌≤◌, ◌<◌, ltb, length, replicate}

@@ -5,8 +5,8 @@
 --     ue_only, se_only              what is read is exactly the code of the number answered, in its place
 --     ue-grow                       a code that is read in the first bytes of a buffer is read in the buffer
 --     ue-cut, se-cut                a buffer that ends inside a code: no code is read
+-- Of these proofs/Laws.antt has `ue-written-read` and `se-written-read`, since an edit of must-fail/ changes what they rest on.
 -- Assumes nothing.
--- ---- what is written
 use Rattle.std.specs.Prelude.{◌≡◌, refl, List, [], ◌++◌, Bool, true, false, ℕ, ◌+◌, ◌-◌, ◌*◌, ◌^◌, ◌≤◌, ◌<◌, ℤ, nat_abs, length, take, drop}
 use Rattle.std.proofs.Common.{sym, ap, ◌∙◌, arith, add-zero, length-append, length-take}
 use Rattle.lists.specs.Every.{Below, below_splice}
@@ -21,6 +21,8 @@ use Rattle.golomb.specs.Answers.{read_ue, read_se, signed, ue_none, ue_some, se_
 use Rattle.golomb.specs.declared.UeRead.{UeRead}
 use Rattle.golomb.specs.declared.UeRead.TheVariants as Ue
 use Rattle.golomb.specs.declared.SeRead.TheVariants as Se
+
+-- ---- what is written
 
 pub buffer-bits : (s : List ℕ) (place : ℕ) (code : List ℕ) → Below 2 code → place + length code ≤ bit_count s
     → bits_of (packed (splice (bits_of s) place code)) ≡ splice (bits_of s) place code

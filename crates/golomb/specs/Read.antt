@@ -1,8 +1,8 @@
 -- Reading an unsigned code (9.1): leading_zero_bits counts the zeros in front; behind the 1 stand as many bits again, and
 -- code_num = 2 ^ leading_zero_bits - 1 + read_bits(leading_zero_bits). Paper 01 reads no code of more than 31 leading zeros.
 --     whole bs      whether a whole code stands at the front of the bits bs
---     code_num bs    its number
---     code_bits bs   its length
+--     code_num bs   its number
+--     code_bits bs  its length
 --     read-ue       what is written is read, whatever follows
 --     ue-read       what is read is the code of its number
 --     ue-prefix     no strict prefix of a code is read as a code

@@ -1,5 +1,5 @@
 -- Facts by computation, and a choice by an order.
---     all_below n f     whether f holds at each number below n: a law of all bytes is one such test, which antt computes
+--     all_below n f    whether f holds at each number below n: a law of all bytes is one such test, which antt computes
 --     at_below, all_at, all_true   the test at each number
 --     same             whether two lists are equal, for such a test
 --     either           one of two numbers is at most the other, or above it

@@ -1,11 +1,11 @@
 -- The answers of escaping and unescaping, with the numbers and values that paper 01 gives them.
---     number_of, length_of        an answer's number (0 where it is accepted, 21 no room) and its length (0 where it is refused)
---     escaped_of, escaped_out     the answer to a payload and an output, and what the output then holds
+--     number_of, length_of      an answer's number (0 where it is accepted, 21 no room) and its length (0 where it is refused)
+--     escaped_of, escaped_out   the answer to a payload and an output, and what the output then holds
 --     same_answer               answers of equal numbers and lengths are equal
 --     unescaped_number, unescaped_length, unescape_of, unescaped_out, unescaped_same     the same of unescaping (12 a fault)
 --     unescape-esc              what was escaped comes back
+-- Of these proofs/Answers.antt has `unescape-esc`, since an edit of must-fail/ changes what it rests on.
 -- Assumes nothing.
--- Escaping
 use Rattle.std.specs.Prelude.{◌≡◌, refl, List, ◌++◌, true, false, cond, ℕ, ◌≤◌, ◌<◌, leb, length, drop}
 use Rattle.std.proofs.Common.{ap, arith, le-leb}
 use Rattle.std.proofs.lemmas.Bool.{lt-leb}
@@ -15,6 +15,8 @@ use Rattle.nal_unit.specs.declared.Escaped.{Escaped}
 use Rattle.nal_unit.specs.declared.Escaped.TheVariants as Esc
 use Rattle.nal_unit.specs.declared.unescape.Unescaped.{Unescaped}
 use Rattle.nal_unit.specs.declared.unescape.Unescaped.TheVariants.{Written, Fault, NoRoom}
+
+-- Escaping
 
 abbrev pub number_of : Escaped → ℕ
 number_of (Esc.Written n) = 0

@@ -1,5 +1,5 @@
 -- Laws of lists that the other files of this crate share.
---     last_of d xs     the last element of xs, or d where there is none
+--     last_of d xs    the last element of xs, or d where there is none
 --     drop-three      three elements in a row
 -- Assumes nothing.
 use Rattle.std.specs.Prelude.{◌≡◌, refl, List, [], ◌∷◌, ◌++◌, ℕ, ◌+◌, ◌≤◌, ◌<◌, length, drop, get_or}

@@ -1,7 +1,7 @@
 -- Stretches that escaping passes at once (calm.rt).
 --     Quiet z xs            no byte of xs gets 03, after z counted zeros: xs is its own escape (quiet-esc)
---     plain_at, quiet-part   whether a byte of a slice goes without 03, by the bytes before it there; a part of it whose bytes all do
---     blanks, zero_at        zero bytes; whether a byte of a slice is zero
+--     plain_at, quiet-part  whether a byte of a slice goes without 03, by the bytes before it there; a part of it whose bytes all do
+--     blanks, zero_at       zero bytes; whether a byte of a slice is zero
 --     triples               what 64 zeros are escaped to, behind one counted zero and behind two
 -- Assumes nothing.
 use Rattle.std.specs.Prelude.{◌≡◌, refl, List, [], ◌∷◌, Bool, true, false, not, ◌&&◌, ℕ, zero, suc, ◌+◌, ◌*◌, ◌/◌, ◌%◌, ◌≤◌, ◌<◌, leb, eqb, length, get_or, replicate}

@@ -1,6 +1,6 @@
 -- Laws of escaping that its code cites. The count of zero bytes is read off the output: those that stand right before a place, two at most.
 --     esc_least             an escape is no shorter than its payload
---     run, run_end           the zero bytes in a row behind a byte, behind a list
+--     run, run_end          the zero bytes in a row behind a byte, behind a list
 --     counted d at          those before the place `at` of the output d
 -- Assumes nothing.
 use Rattle.std.specs.Prelude.{◌≡◌, refl, List, [], ◌∷◌, ◌++◌, Bool, true, false, cond, ◌&&◌, ℕ, zero, suc, ◌+◌, ◌≤◌, ◌<◌, leb, eqb, length, take, drop, get_or}

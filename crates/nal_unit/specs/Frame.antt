@@ -1,8 +1,8 @@
 -- The frame law: units in a row, each behind 00 00 00 01, are what a walk meets, one by one and no other, whatever the units mean.
 --     joined us t      the units us, each behind 00 00 00 01, and then the bytes t
 --     says h p us      what is answered about them where the first start code's zero is at p: each judged in turn, with its offset
---     held_by h us      what is held behind them
---     place_by p us     the place behind them
+--     held_by h us     what is held behind them
+--     place_by p us    the place behind them
 --     Goes h us        each is whole (it does not end in zero, and no start code stands in it), and no call keeps its place
 --     frame            the law
 -- Assumes nothing.

@@ -3,9 +3,9 @@
 -- here asks that the unit be without fault.
 --     before s p k      the byte of s that stands k places before p; where s has none there, 1, which is no zero
 --     ins a b x         whether the byte x, behind the bytes a and b, is an inserted one
---     ins_at s p         whether the byte of s at the place p is; so none is at the places 0 and 1. ins_at_lem: the bytes at p - 2, p - 1 and p say it, from 2 on
+--     ins_at s p        whether the byte of s at the place p is; so none is at the places 0 and 1. ins_at_lem: the bytes at p - 2, p - 1 and p say it, from 2 on
 --     kept s p e        the bytes of s from p up to e that are not: what that stretch holds of the payload
---     ins_count s p e    how many are
+--     ins_count s p e   how many are
 --     kept_whole        from the place 0 on, before which nothing stands, what is kept is the unescaping of the whole
 --     kept-un           from behind a unit's header up to its end, what is kept is its payload
 --     un-kept, un_few   bytes with no header before them: the first two are payload whatever they are, and what is kept from the third on is the rest

@@ -1,8 +1,8 @@
 -- What the scans of the code (scan.rt) rest on: how tests by `|`, `^` and `&` say what the definitions do, and how the first fault, the next start code
 -- and trailing zeros go together.
---     first_fault s         how far it is to the first fault, or to the end where there is none
+--     first_fault s        how far it is to the first fault, or to the end where there is none
 --     next_first           the next start code is not before the first fault
---     unit_of s             the unit whose bytes begin at the front of s, less its trailing zeros
+--     unit_of s            the unit whose bytes begin at the front of s, less its trailing zeros
 --     unit_bad             that unit has a fault exactly where the first fault of s and two bytes more are in it
 --     Seeking, Sought      the search for the first fault at a place that it has reached, and what it finds; the inserted bytes on its way are seen too
 --     Scanned s from r     the unit at a place of a slice: where the next start code or the end is, where the unit stops, whether it has a fault, from where on it is calm

@@ -4,7 +4,7 @@
 --     Took s p e n d a d' r    those were written at the place a of a buffer that held d and holds d', and r is a place behind them
 --     Stands s e X n p         p is the place of the byte n of the payload X: what a reader that knows X keeps of its place
 --     pass_stretch             a stretch that keeps v; took_stretch, written as v; pass-calm, took-calm, where no byte of it is inserted; pass-zeros
---     zero_pairs s p n          the 3 * n bytes from p on are n pairs of zeros, an inserted byte in each; behind_zeros: the place behind n bytes that stand so, else p
+--     zero_pairs s p n         the 3 * n bytes from p on are n pairs of zeros, an inserted byte in each; behind_zeros: the place behind n bytes that stand so, else p
 --     stands_start             the place behind a unit's header; stands-pass, stands-took, stands_stretch, stands-calm from there on
 -- Assumes nothing.
 use Rattle.std.specs.Prelude.{◌≡◌, refl, List, ◌∷◌, ◌++◌, Bool, true, cond, ◌&&◌, ℕ, ◌+◌, ◌-◌, ◌*◌, ◌/◌, ◌≤◌, ◌<◌, leb, eqb, length, take, drop, get_or, set, replicate}

@@ -1,11 +1,12 @@
 -- Unescaping (7.3.1), and what it refuses (refusal 12 of paper 01).
---     un_from z xs      the payload of the escaped bytes xs where z zero bytes are counted before them; `un` where none is. Total: a 03 behind two
+--     un_from z xs     the payload of the escaped bytes xs where z zero bytes are counted before them; `un` where none is. Total: a 03 behind two
 --                      zero bytes counted since the last byte taken out is taken out, whatever follows it, and at the end too
 --     fault xs         whether xs holds 00 00 00, 00 00 02, or 00 00 03 with a byte over 03 behind; or 00 00 01, which no unit can hold
 --     un-esc           unescaping undoes escaping
 --     fault-esc        no escape has a fault
 --     fault-take       nor has what is left of faultless bytes after a cut
 --     un-take          what is left of an escape after a cut unescapes to the first bytes of the payload, to fewer than all if the cut took any
+-- Of these proofs/Faultless.antt has `fault-esc`, since an edit of must-fail/ changes what it rests on.
 -- Assumes nothing.
 use Rattle.std.specs.Prelude.{◌≡◌, refl, List, [], ◌∷◌, ◌++◌, Bool, true, false, cond, ◌&&◌, ◌||◌, ℕ, zero, suc, ◌+◌, ◌≤◌, ◌<◌, leb, eqb, length, take}
 use Rattle.std.proofs.Common.{ap, ◌∙◌, true≢false, arith, leb-true, leb-false, ne_eqb}

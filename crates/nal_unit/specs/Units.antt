@@ -2,6 +2,7 @@
 --     fault-clear      faultless bytes hold no start code
 --     whole            a header above 0 and the escape of a payload that does not end in zero: a unit that is met whole
 --     broken-unit      such a unit, cut behind its header and trimmed: its header and a start of the escape, faultless, which unescapes to less than the payload
+-- Of these proofs/Units.antt has `whole` and `broken-unit`, since an edit of must-fail/ changes what they rest on.
 -- Assumes nothing.
 use Rattle.std.specs.Prelude.{◌≡◌, refl, List, [], ◌∷◌, Bool, true, false, ◌&&◌, ℕ, ◌<◌, eqb, length, take}
 use Rattle.std.proofs.Common.{eqb-true}

@@ -1,7 +1,7 @@
 -- What the public calls answer.
 --     Holds r p       the answer r of a call that writes a payload holds the bytes p and nothing else (holds_same: so it is known)
---     sps_read         what the answer of a call that reads a sequence parameter set says (sps-read_same: so it is known)
---     sps_number       its number: 0, or refusal 14 of paper 01, which is given exactly where none is read (sps-refused)
+--     sps_read        what the answer of a call that reads a sequence parameter set says (sps-read_same: so it is known)
+--     sps_number      its number: 0, or refusal 14 of paper 01, which is given exactly where none is read (sps-refused)
 -- Assumes nothing.
 use Rattle.std.specs.Prelude.{◌≡◌, refl, List, ◌++◌, ℕ, ◌-◌, ◌≤◌, length, take, drop, replicate}
 use Rattle.std.proofs.Common.{sym, ap, ◌∙◌, arith, length-append, take-append-drop}

@@ -1,7 +1,7 @@
 -- Reading a sequence parameter set back. What size and kind a payload would be the form of is looked up in its fields; it is a form exactly if it
 -- is that form, so that no other bit can differ (refusal 14 of paper 01 is exact).
 --     guessed p               the size and kind that the fields of the bytes p say
---     read_sps level p         that, where p is the payload of a sequence parameter set of an accepted size; else none
+--     read_sps level p        that, where p is the payload of a sequence parameter set of an accepted size; else none
 --     sps-sound, sps_whole    so p is read as q exactly if q is accepted and p is its payload
 -- Assumes nothing.
 use Rattle.std.specs.Prelude.{◌≡◌, Bool, cond, ◌&&◌, eqb, take, get_or}

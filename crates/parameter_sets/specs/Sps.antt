@@ -1,8 +1,8 @@
 -- The sequence parameter set of a take (7.3.2.1, 7.3.2.1.1; Annex E), field by field, with the choices of paper 01 ("The bits of a take").
---     profile_idc f            66 for colour 8, 100 for mono 8, 244 for both 12-bit kinds (Annex A)
+--     profile_idc f           66 for colour 8, 100 for mono 8, 244 for both 12-bit kinds (Annex A)
 --     crop_right, crop_bottom   the samples that padding adds, in crop units
---     sps_bits level q         the bits, one line a field
---     sps_payload level q      the payload's bytes
+--     sps_bits level q        the bits, one line a field
+--     sps_payload level q     the payload's bytes
 -- Assumes nothing.
 use Rattle.std.specs.Prelude.{List, [], ◌++◌, Bool, cond, not, ◌&&◌, ℕ, ◌-◌, ◌*◌, ◌/◌, eqb}
 use Rattle.bits.specs.Bits.{low_bits}

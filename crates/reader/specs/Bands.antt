@@ -1,7 +1,7 @@
 -- A row of macroblocks taken line by line of a plane: each line is a piece of every macroblock of the row.
 --     pieces s unit p bw full rest    `full` pieces of bw bytes that stand in s from p on, `unit` bytes apart, and the first `rest` bytes of one more
 --     Pieced, Banded                  the pieces of a line, of h lines, lie in the slice
---     lines_of                         h lines: each begins bw bytes behind the one before it
+--     lines_of                        h lines: each begins bw bytes behind the one before it
 --     line_whole, line_more, line-laid   a line as it is laid
 --     Shown, Band, Dark               a plane in a row of macroblocks; the row stands in s as in the payload; all its samples are zero
 --     lines_are, dark_are             the lines, or zeros, are the plane's visible part in that row, stored tight

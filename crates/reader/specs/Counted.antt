@@ -1,5 +1,5 @@
 -- The reader looks at what is held only by what it counts as: two states that count as one are told the same.
---     is_set w           whether w is about a parameter set, the only words that change what is held
+--     is_set w          whether w is about a parameter set, the only words that change what is held
 --     Alike v w         two verdicts say and do the same; where they are about a parameter set, they leave the same held
 --     judge-alike       of states that count as one
 --     Turned            the same of two turns (turn_alike)

@@ -1,6 +1,6 @@
 -- Laws of looking at a picture's payload by its places, for the code.
 --     UnitAt s o e         a unit of s: its header byte stands at o, its end is e
---     payload_at s o e      its payload
+--     payload_at s o e     its payload
 -- Assumes nothing.
 use Rattle.std.specs.Prelude.{◌≡◌, refl, List, [], ◌∷◌, Bool, true, false, ◌&&◌, ℕ, zero, suc, ◌+◌, ◌-◌, ◌*◌, ◌≤◌, ◌<◌, eqb, length, take, drop, get_or}
 use Rattle.std.proofs.Common.{sym, ap, ◌∙◌, append-nil, zero-add, mul-le-mul, mul-le-mul_right, add-one, arith, length-drop, drop_of_length-le, eq-eqb, ne_eqb}

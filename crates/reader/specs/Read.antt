@@ -1,11 +1,11 @@
 -- The reader's call as the code has it (paper 01, "Reading a take"): the turn of the walk (crate nal_unit, Calls) with the reader's judge.
---     Told, told, told_of      an answer without its samples, which go to the planes: of the walk, and of the code
---     number_told              paper 01's number of an answer, 0 where it is no refusal
---     held_of                  the parameter sets that are held
---     room_of, rooms           the lengths of the lent planes
---     plane_length             the length of a plane for a picture while h is held: its visible rows, stored tight
+--     Told, told, told_of     an answer without its samples, which go to the planes: of the walk, and of the code
+--     number_told             paper 01's number of an answer, 0 where it is no refusal
+--     held_of                 the parameter sets that are held
+--     room_of, rooms          the lengths of the lent planes
+--     plane_length            the length of a plane for a picture while h is held: its visible rows, stored tight
 --     handed, laid            the samples that an answer hands out; a plane that held d and now begins with x
---     read_of                  the turn of a call
+--     read_of                 the turn of a call
 --     Reads                   what a call answers and leaves
 --     reads_one               which is one thing: two answers of one call are the same, and so are the planes
 -- Assumes nothing.

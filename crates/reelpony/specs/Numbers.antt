@@ -1,11 +1,11 @@
 -- The calls as C sees them: kinds, depths and sessions are numbers there.
---     colour_known, depth_known     a colour is 0 (mono) or 1 (4:2:0), a depth 8 or 12
+--     colour_known, depth_known   a colour is 0 (mono) or 1 (4:2:0), a depth 8 or 12
 --     known                       what a call is given can be looked at: its colour, and the depths of the planes that its kind has. Else the answer is 99
---     PictureIn, shot_in           the picture that a call is given, in numbers and planes; as the writer has it. known_in: it can be looked at
---     held_of                      the session that eight numbers say: width, height, colour, depth, whoever wrote them; the others are not looked at. Where the
+--     PictureIn, shot_in          the picture that a call is given, in numbers and planes; as the writer has it. known_in: it can be looked at
+--     held_of                     the session that eight numbers say: width, height, colour, depth, whoever wrote them; the others are not looked at. Where the
 --                                 third is no colour or the fourth no depth, a session of no size, which no picture that passes 1 to 5 has
---     words_of, words_after         the eight numbers of a session; those that an answer leaves
---     start_number ..              what a start call answers and leaves, where b says whether its numbers are known; next_number .. the same of a next call
+--     words_of, words_after       the eight numbers of a session; those that an answer leaves
+--     start_number ..             what a start call answers and leaves, where b says whether its numbers are known; next_number .. the same of a next call
 --     StartsIn, NextsIn           what `reelpony_start` and `reelpony_next` answer and leave, whole
 -- Assumes nothing.
 use Rattle.std.specs.Prelude.{◌≡◌, List, [], ◌∷◌, Bool, cond, ◌&&◌, ◌||◌, ℕ, eqb, get_or}

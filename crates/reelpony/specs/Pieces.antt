@@ -1,9 +1,9 @@
 -- Escaping, unescaping and the codes as C sees them: numbers, lengths and places of the answers that nal_unit and golomb define.
---     escape_number, escape_length                         what escaping the payload s into the output d answers; what it leaves is nal_unit's escaped_out
---     unescape_number, unescape_length, unescape_buffer     what unescaping the bytes s into the output d answers and leaves
---     write_number, write_behind, write_buffer              what writing a code at a place of the buffer d answers and leaves, where b says whether the number has one
---     read_ue_number, read_ue_x, read_ue_behind                what reading an unsigned code at a place of the payload s answers; x is what the host held
---     read_se_number, read_se_x, read_se_behind                the same of a signed code
+--     escape_number, escape_length                       what escaping the payload s into the output d answers; what it leaves is nal_unit's escaped_out
+--     unescape_number, unescape_length, unescape_buffer  what unescaping the bytes s into the output d answers and leaves
+--     write_number, write_behind, write_buffer           what writing a code at a place of the buffer d answers and leaves, where b says whether the number has one
+--     read_ue_number, read_ue_x, read_ue_behind          what reading an unsigned code at a place of the payload s answers; x is what the host held
+--     read_se_number, read_se_x, read_se_behind          the same of a signed code
 -- Then the law of each call, which its code cites. Assumes nothing.
 use Rattle.std.specs.Prelude.{◌≡◌, List, Bool, ℕ, ℤ}
 use Rattle.std.proofs.Common.{sym, ap, ◌∙◌}

@@ -1,7 +1,7 @@
 -- The reader's call as C sees it: state and answer are eight numbers each.
---     held_in ws            what the reader's eight numbers say is held: place; SPS held, width, height, colour, depth; PPS held; one that is spare. A flag is 0 or 1,
+--     held_in ws           what the reader's eight numbers say is held: place; SPS held, width, height, colour, depth; PPS held; one that is spare. A flag is 0 or 1,
 --                          and where one is not, nothing is held
---     turn_in               the turn of a call (crate reader, Read, over numbers)
+--     turn_in              the turn of a call (crate reader, Read, over numbers)
 --     told8                an answer's eight numbers: what it is (0 End, 1 SPS, 2 PPS, 3 picture, 4 refusal), offset, width, height, colour, depth, number, one
 --                          that is spare; what it does not have is 0
 --     held8, moved8        the eight numbers of a state; those of a state that is only moved

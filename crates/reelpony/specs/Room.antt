@@ -1,7 +1,7 @@
 -- The room of a picture's calls as C sees it.
---     room_number w h c d        the room for pictures of this size, colour and depth (crate encoder, Room); 0 where the numbers are not known
+--     room_number w h c d       the room for pictures of this size, colour and depth (crate encoder, Room); 0 where the numbers are not known
 --     start_room, next_room     a call whose output is that long is not refused with 9, whatever it is given besides
---     by_shape                   99 and 1 to 5, the numbers of a refusal for what room_number looks at
+--     by_shape                  99 and 1 to 5, the numbers of a refusal for what room_number looks at
 --     start_none, next_none     where the planes have one depth the room is 0 exactly where the call is refused with one of them
 -- Then the laws that the code cites. Assumes nothing.
 use Rattle.std.specs.Prelude.{◌≡◌, List, Bool, ◌&&◌, ◌||◌, ℕ, ◌≤◌, length}

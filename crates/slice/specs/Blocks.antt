@@ -1,5 +1,5 @@
 -- Which bytes of a payload are those of a plane's visible part, and how that part is filled macroblock by macroblock.
---     row_in                 a row of a block that is visible
+--     row_in_lem             a row of a block that is visible
 --     block_in_lem, rows_out     the rows of a block, visible or not
 --     block_out              what is not of the plane's block: other planes, heads
 --     fill_first, fill-block, fill_last   a reader's loop over the macroblocks: before it, a turn, behind it
@@ -99,9 +99,9 @@ row_only {G} {mh} {vb} {vh} f r x j h l a b =
     (sym (div-add-mod' (j / vb) G.bh) ∙ (rw (i.0, k) (div-add-mod' r G.bh)), i.1)
 
 -- the visible bytes of the row r in the block column x, w of them, and where they are stored
-pub row_in : {G : Grid} {mh vb vh : ℕ} → Fit G mh vb vh → (r x w : ℕ) → r < vh → x * G.bw < vb → w ≡ min G.bw (vb - x * G.bw)
+pub row_in_lem : {G : Grid} {mh vb vh : ℕ} → Fit G mh vb vh → (r x w : ℕ) → r < vh → x * G.bw < vb → w ≡ min G.bw (vb - x * G.bw)
     → Takes (pos_of G vb) (vh * vb) (place G r x) (place G r x + G.bw) (r * vb + x * G.bw) w
-row_in {G} {mh} {vb} {vh} f r x w h k e =
+row_in_lem {G} {mh} {vb} {vh} f r x w h k e =
     record {
       on = omega arith;
       inside = omega (arith, mul-le-mul_right vb h);
@@ -141,7 +141,7 @@ block_in_lem {G} {mh} {vb} {vh} f my mx w h k i c e = record { each = go }
         let p = place-block G my mx y (omega arith) in
         let q : spot G (my * G.mw + mx) G.off + (y + 1) * G.bw ≡ place G (my * G.bh + y) mx + G.bw = omega arith in
         let a : my * G.bh * vb + mx * G.bw + y * vb ≡ (my * G.bh + y) * vb + mx * G.bw = omega arith in
-        rw (a, q, ← p) (row_in f (my * G.bh + y) mx w (omega arith) c e)
+        rw (a, q, ← p) (row_in_lem f (my * G.bh + y) mx w (omega arith) c e)
 
 -- the rows of a block below the visible part
 pub rows_out : {G : Grid} {mh vb vh : ℕ} → Fit G mh vb vh → (my mx h : ℕ) → mx < G.mw → h ≤ G.bh → vh ≤ my * G.bh + h

@@ -1,7 +1,7 @@
 -- Lists made piece by piece, and element by element.
 --     cat f i n           n pieces side by side, the first that of i: f i ++ f (i + 1) ++ ..
 --     tab f i n           n elements, the first that of i
---     rows_of s step p w   the rows of w elements that stand in s from the place p on, `step` apart
+--     rows_of s step p w  the rows of w elements that stand in s from the place p on, `step` apart
 --     Even f m i n        each of the n pieces from that of i on has m elements
 -- A loop whose counter is k and whose end is e has `cat f k (e - k)` still to come.
 -- Assumes nothing.

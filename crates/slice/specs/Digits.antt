@@ -1,4 +1,4 @@
--- Numbers as digits: q * m + r with r below m. That q is its quotient by m and r the remainder are digits-div and digits-mod of lib.Arith.
+-- Numbers as digits: q * m + r with r below m. That q is its quotient by m and r the remainder are digits_div and digits_mod of Rattle.std.proofs.Math.Arith.
 -- Assumes nothing.
 use Rattle.std.specs.Prelude.{◌≡◌, ℕ, zero, suc, ◌+◌, ◌*◌, ◌/◌, ◌%◌, ◌≤◌, ◌<◌}
 use Rattle.std.proofs.Common.{mod-lt, div-lt_iff_lt-mul, mul-le-mul_right, arith}

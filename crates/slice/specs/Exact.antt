@@ -1,6 +1,6 @@
 -- Refusal 18 is exact (paper 01, "Reading a take"): what has the length of a picture's payload and passes the test of header, heads and last byte is
 -- the payload of some planes, lent whole.
---     read_out q X       the planes that stand in the payload X with their padding, stored tight
+--     read_out q X      the planes that stand in the payload X with their padding, stored tight
 --     picture_sound     X is the payload of those planes
 --     out-bytes         which are bytes where X is
 -- Assumes nothing.

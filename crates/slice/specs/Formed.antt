@@ -2,7 +2,7 @@
 -- that are read from it.
 --     Formed hdr size n X    X has the length of n macroblocks of `size` bytes, and header, heads and last byte are right
 --     right hdr size n X     the test of the last three
---     planes_of hdr mw Ps X   planes of the widths and heights of Ps, whose rows are the parts of X at their places
+--     planes_of hdr mw Ps X  planes of the widths and heights of Ps, whose rows are the parts of X at their places
 -- Assumes nothing.
 use Rattle.std.specs.Prelude.{◌≡◌, refl, List, [], ◌∷◌, ◌++◌, Bool, true, ◌&&◌, eqb, ℕ, zero, suc, ◌+◌, ◌-◌, ◌*◌, ◌/◌, ◌%◌, ◌≤◌, ◌<◌, length, get_or}
 use Rattle.std.proofs.Common.{sym, ap, ◌∙◌, eqb-true, eq-eqb, add-zero, zero-add, mul-le-mul_right, div-add-mod', add-one, arith}

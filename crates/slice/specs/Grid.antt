@@ -1,8 +1,8 @@
 -- Where the samples of a plane stand in a picture's payload, and that they are the plane's.
 --     spot G i p           where the byte p of the samples of macroblock i stands
 --     place G r x          where the row r of the plane's block column x begins
---     pos_of G vb j         where the sample byte j stands, of the plane's visible part: rows of vb bytes, stored tight
---     tight_of G X vb vh    the visible part, vh rows of vb bytes, as it is read back out of the payload X
+--     pos_of G vb j        where the sample byte j stands, of the plane's visible part: rows of vb bytes, stored tight
+--     tight_of G X vb vh   the visible part, vh rows of vb bytes, as it is read back out of the payload X
 --     visible s stride vb vh   the visible part of a lent plane, row by row
 -- Assumes nothing.
 use Rattle.std.specs.Prelude.{◌≡◌, refl, List, [], ◌∷◌, ◌++◌, ℕ, ◌+◌, ◌*◌, ◌/◌, ◌%◌, ◌≤◌, ◌<◌, length, get_or}

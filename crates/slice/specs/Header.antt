@@ -1,7 +1,7 @@
 -- The slice header of a picture (7.3.3, with dec_ref_pic_marking of 7.3.3.3), field by field, and the first mb_type, which follows it without alignment
 -- (7.3.4, 7.3.5). The first macroblock and the picture's identifier are arguments, both 0 in the base.
---     header_bits first id    the bits, one line a field
---     header_of first id      the bytes: pcm_alignment_zero_bit fills the last one (7.3.5)
+--     header_bits first id   the bits, one line a field
+--     header_of first id     the bytes: pcm_alignment_zero_bit fills the last one (7.3.5)
 --     header_is              paper 01: 88 84 28 68
 --     mb_type_is             the mb_type of every later macroblock with its alignment: 0D 00
 -- Assumes nothing.

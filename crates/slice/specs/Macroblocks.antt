@@ -1,7 +1,7 @@
 -- The macroblocks of a picture as its writer goes over them: laws that the code cites.
 --     lend, lends            a lent plane; the three of a call
 --     Ready q L              an accepted size, and planes that are lent whole
---     macroblock_in q L i     macroblock i with what stands before its samples
+--     macroblock_in q L i    macroblock i with what stands before its samples
 --     picture_is             a picture's payload is its macroblocks, and 80
 --     samples_are            a macroblock's samples are a block of each plane, in every kind: a plane that monochrome has not is empty
 --     Inside, inside         a block lies inside its plane

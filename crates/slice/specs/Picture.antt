@@ -1,11 +1,11 @@
 -- A picture's payload from the lent planes of its kind, and its visible samples read back from it (paper 01, "The bits of a take", and "Reading a take").
 --     Lend, Lends             a lent plane's bytes and stride; the three of a picture. Planes are numbered: 0 is Y, 1 Cb, 2 Cr
---     planes_in f L            the planes that the form f has, by their blocks
---     picture_of q L           the payload
---     picture_length q         its exact length
---     grid_in q p              where the samples of plane p stand in it
---     samples_in q p X         the visible samples of plane p in the payload X, stored tight
---     visible_in q p a         those of the lent plane a
+--     planes_in f L           the planes that the form f has, by their blocks
+--     picture_of q L          the payload
+--     picture_length q        its exact length
+--     grid_in q p             where the samples of plane p stand in it
+--     samples_in q p X        the visible samples of plane p in the payload X, stored tight
+--     visible_in q p a        those of the lent plane a
 --     Whole q L               each plane that the form has is lent whole
 --     picture_length_lem, picture_right, picture_back, picture_last     such a picture's payload has the exact length, its header, heads and last byte
 --                             are right, the visible samples are read back, and it does not end in zero

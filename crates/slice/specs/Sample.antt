@@ -1,11 +1,11 @@
 -- A sample is a number (ITU-T H.264 7.3.5, 7.4.5 and 8.3.5; paper 01, "Pictures accepted": 12-bit rows are packed, two samples in three bytes, most
 -- significant bits first).
---     sample_at d row c       the number whose d bits, the most significant first, stand in the bytes of a row from the bit c * d on
---     sample_in d a r c       the sample at row r and column c of the lent plane a; rows stored tight are a plane too, `tight`
+--     sample_at d row c      the number whose d bits, the most significant first, stand in the bytes of a row from the bit c * d on
+--     sample_in d a r c      the sample at row r and column c of the lent plane a; rows stored tight are a plane too, `tight`
 --     sample_eight           of 8 bits it is the byte
 --     sample_even, sample_odd, packed-case     of 12 bits, two in three bytes
---     pcm_luma, pcm_chroma     pcm_sample_luma and pcm_sample_chroma of a macroblock
---     coded, pcm_bits         a number as u(v) writes it; those of a macroblock in the order of 7.3.5
+--     pcm_luma, pcm_chroma   pcm_sample_luma and pcm_sample_chroma of a macroblock
+--     coded, pcm_bits        a number as u(v) writes it; those of a macroblock in the order of 7.3.5
 --     mb-numbers, picture_numbers      they are the bits of the macroblock's samples, and of those in a picture's payload
 --     visible-numbers, visible_front, numbers_back    each visible sample is read back, as a number
 -- All is said once over plane and depth: a row of a block has a multiple of 8 samples, so it is whole bytes at any depth (block_whole).

@@ -1,4 +1,4 @@
--- Theorems over specs/InC.antt that rest on a definition which a must-fail edit of this crate changes. They stand here, so that the edit is read and refused.
+-- Theorems over specs/InC.antt, and the definitions that hold such proofs, that rest on a definition which a must-fail edit of this crate changes. They stand here, so that the edit is read and refused.
 use Rattle.std.specs.Prelude.{◌≡◌, refl, List, [], ◌∷◌, ◌++◌, map, Bool, true, false, ℕ, ◌+◌, eqb, length, drop, replicate}
 use Rattle.std.proofs.Common.{ap, ◌∙◌, eqb-true}
 use Rattle.nal_unit.specs.Calls.{ended}

@@ -1,7 +1,8 @@
 -- The unit of a take that a cut falls in, whichever it is: what is answered about what is left of it (paper 01: 11 for a bare start code, 14 in a parameter
 -- set, 17 in a picture, and nothing where no whole start code is left).
---     cut_word i r     the answer where the cut leaves r bytes of the frame of unit i
+--     cut_word i r    the answer where the cut leaves r bytes of the frame of unit i
 --     broken-said     so it is
+-- Of these proofs/Broken.antt has `broken-said`, since an edit of must-fail/ changes what it rests on.
 -- Assumes nothing.
 use Rattle.std.specs.Prelude.{◌≡◌, List, [], ◌∷◌, ◌++◌, true, false, cond, ℕ, suc, ◌<◌, leb, ltb, eqb, length, take}
 use Rattle.std.proofs.Math.Path.{refl, ap}

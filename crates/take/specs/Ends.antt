@@ -3,6 +3,7 @@
 --     goes_on       each call answers End, or 19, or moves on by a byte at least
 --     ends          with planes that are long enough a reading answers nothing but End after no more calls than there are bytes
 --     host-ends     so it is of a host's calls
+-- Of these proofs/Ends.antt has `host-ends`, since an edit of must-fail/ changes what it rests on.
 -- Assumes nothing.
 use Rattle.std.specs.Prelude.{◌≡◌, refl, List, ◌++◌, ◌⊎◌, Bool, true, false, ℕ, suc, ◌+◌, ◌≤◌, ◌<◌, length, take, drop, replicate}
 use Rattle.std.proofs.Common.{ap, inl, inr, arith}

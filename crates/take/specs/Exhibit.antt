@@ -1,6 +1,6 @@
 -- Takes exhibited, so that nothing that is said of takes is said of none: pictures of 16 x 16, monochrome of 8 bits, whose samples are all one number.
 --     flat x                      such a picture
---     sets_flat, picture_flat x     the bytes of its parameter sets, and of its own unit, where x is over 3
+--     sets_flat, picture_flat x   the bytes of its parameter sets, and of its own unit, where x is over 3
 --     flat_start, flat_next       so they are
 --     started, lacked, went       a start call with it and 286 bytes of output is accepted, with fewer it is refused with 9; so a next call with 266
 --     one, two                    a take of one picture, with paper 01's samples, 0x10; and of two, of which the second has others

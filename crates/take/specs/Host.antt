@@ -9,6 +9,7 @@
 --     Lends, lends-served     where each call lends planes that are long enough for what is held then, each is served; before a size is held, any planes are
 --     host-round_trip, host-cut, host_damage     the promises so
 --     host-refused      a refusal changes no byte of the planes and nothing that is held, 19 not even the place
+-- Of these proofs/Host.antt has `runs-get`, `lends-served`, `host-round_trip`, `host-cut`, `host_damage` and `host-refused`, since an edit of must-fail/ changes what they rest on.
 -- Assumes nothing.
 use Rattle.std.specs.Prelude.{◌≡◌, false, cond, ℕ, ◌+◌, eqb, drop}
 use Rattle.std.proofs.Math.Path.{refl, ap}

@@ -3,12 +3,12 @@
 --     c                       `reelpony_read` is a way to call the reader (Host). So every promise about a host's calls holds of it: `host-round_trip c`, `host-cut c`,
 --                             `host_damage c`, `host-refused c`, and in Damaged, Ends and Numbers `host_damaged c`, `host-ends c`, `host-numbers c`
 --     CallIn, ShootIn         a call of the writer; a start call that was accepted and next calls behind it, accepted or not
---     file_in, shots_in         what the accepted ones wrote, one behind the other; their pictures
---     take_in, file_in_lem         a take of those pictures (take_in_lem), whose bytes the file is
+--     file_in, shots_in       what the accepted ones wrote, one behind the other; their pictures
+--     take_in, file_in_lem    a take of those pictures (take_in_lem), whose bytes the file is
 --     whole_way, numbers-way  files written by the C calls, read by the C calls
 --     refused_start, refused_next, refused-read     a refusal changes no lent byte and no session; of a reader's numbers only the place may be another
+-- Of these proofs/InC.antt has `take_in`, `file_in_lem`, `whole_way` and `numbers-way`, since an edit of must-fail/ changes what they rest on.
 -- Assumes nothing.
--- ---- the reader
 use Rattle.std.specs.Prelude.{◌≡◌, refl, List, [], ◌∷◌, ◌++◌, Bool, true, false, cond, ℕ, ◌+◌, eqb, length, take, get_or}
 use Rattle.std.proofs.Common.{sym, ap, ◌∙◌, arith}
 use Rattle.nal_unit.specs.Calls.{Say, ended, astray, said, at}
@@ -27,6 +27,8 @@ use Rattle.reelpony.specs.Words.{session-words, after_words}
 use Rattle.take.specs.Host.{Host}
 use Rattle.take.specs.Written as W
 use Rattle.take.specs.Written.{Wrote}
+
+-- ---- the reader
 
 -- what `reelpony_read` answers: its result, and the eight numbers of the answer
 pub record AnswerIn : Type 0 where
@@ -148,8 +150,6 @@ nexts_shots s (k ∷ ks) = go (eqb k.number 0) refl (nexts_shots s ks)
     go : (b : Bool) → eqb k.number 0 ≡ b → W.shots_in (wrotes s ks) ≡ next_shots ks → W.shots_in (wrotes s (k ∷ ks)) ≡ next_shots (k ∷ ks)
     go true i e = rw (i, e) refl
     go false i e = rw (i, e) refl
-
--- ---- the whole way
 
 -- ---- refusals
 

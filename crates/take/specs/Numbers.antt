@@ -2,6 +2,7 @@
 --     Same s X       the samples X, stored tight, are those of the picture s, number for number (slice, Sample: `sample_in`)
 --     numbers        so are those of every picture of every take
 --     host-numbers   and so are the planes that a host has after its calls, whatever they held before
+-- Of these proofs/Numbers.antt has `host-numbers`, since an edit of must-fail/ changes what it rests on.
 -- Assumes nothing.
 use Rattle.std.specs.Prelude.{◌≡◌, refl, List, [], ◌∷◌, ◌++◌, map, ℕ, zero, suc, ◌+◌, ◌<◌, length, replicate}
 use Rattle.std.proofs.Common.{ap, ◌∙◌, append-nil, arith}

@@ -4,7 +4,8 @@
 --     cut            the first n bytes alone: the units that are whole within n, then at most one refusal, then End
 --     damage         any stretch behind the first picture's start code is replaced by anything: from each start code wholly behind it, all is read
 --                    as in the undamaged take
---     picture_code, replaced     the place behind the first picture's start code; bytes of which a stretch is replaced
+--     picture_code, replaced    the place behind the first picture's start code; bytes of which a stretch is replaced
+-- Of these proofs/Promises.antt has `cut`, since an edit of must-fail/ changes what it rests on.
 -- Assumes nothing.
 use Rattle.std.specs.Prelude.{◌≡◌, refl, List, [], ◌∷◌, ◌++◌, map, true, cond, ℕ, ◌+◌, ◌-◌, ◌≤◌, leb, length, take, drop, replicate}
 use Rattle.std.proofs.Common.{ap, ◌∙◌, arith, length-append, take-append-drop, drop-drop, length-take-le}

@@ -2,7 +2,7 @@
 -- accepted call before it left.
 --     Take               the calls
 --     bytes_of, units_of   its bytes; its units in order
---     words_of            what there is to be answered about them: size and kind, the picture parameter set, each picture's visible samples
+--     words_of           what there is to be answered about them: size and kind, the picture parameter set, each picture's visible samples
 --     bytes-units        the bytes are the units in a row, each behind 00 00 00 01
 -- Refusal 9 concerns the lent output alone: a call that passes 1 to 8 is accepted as soon as the output has room.
 -- Assumes nothing.

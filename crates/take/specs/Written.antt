@@ -1,6 +1,6 @@
 -- What a host has written that calls the proved functions `start` and `next`, every next call with the session that the call before it left: a take.
 --     Wrote            an accepted call: the picture, the output lent, the session that it left, the length written
---     Shoot, file_of    the calls, and the bytes that they wrote, one behind the other
+--     Shoot, file_of   the calls, and the bytes that they wrote, one behind the other
 --     take_of, file_is  they are a take, of the pictures given (take_shots), and the file is its bytes
 -- Assumes nothing.
 use Rattle.std.specs.Prelude.{◌≡◌, refl, List, [], ◌∷◌, ◌++◌, ℕ, length, take, drop}

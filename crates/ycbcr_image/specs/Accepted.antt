@@ -5,7 +5,8 @@
 --     FinePlane          of a plane: its padded size is whole blocks, its rows are whole bytes, what is visible lies in what is padded, bounds
 --     Present            of a plane that the kind has: nothing of it is empty
 --     tight_most ..      bounds of products: a plane stored tight, the macroblocks, a picture's payload
---     row_in             a row of a block is a row of its plane
+--     row_in_lem         a row of a block is a row of its plane
+-- Of these proofs/Accepted.antt has `fine`, since an edit of must-fail/ changes what it rests on.
 -- Assumes nothing.
 use Rattle.std.specs.Prelude.{◌≡◌, refl, true, false, not, ◌&&◌, ◌||◌, ◌⊎◌, ℕ, zero, suc, ◌+◌, ◌-◌, ◌*◌, ◌/◌, ◌%◌, ◌≤◌, ◌<◌, eqb, ltb}
 use Rattle.std.proofs.Common.{ap, inl, inr, mul-le-mul, arith, ltb-false, eqb-true, eq-eqb}
@@ -162,5 +163,5 @@ pub row_some : {q : Sequence} → Fine q → (p : ℕ) → p < planes q.form →
 row_some g p l = omega (arith, (g.plane p).visible-row, (g.present p l).row)
 
 -- row y of the block in macroblock row my
-pub row_in : {q : Sequence} → Fine q → (p my y : ℕ) → my < frame_height_in_mbs q → y < block_height q.form p → my * block_height q.form p + y < padded_height q p
-row_in g p my y a b = rw (g.plane p).high (digits_lt a b)
+pub row_in_lem : {q : Sequence} → Fine q → (p my y : ℕ) → my < frame_height_in_mbs q → y < block_height q.form p → my * block_height q.form p + y < padded_height q p
+row_in_lem g p my y a b = rw (g.plane p).high (digits_lt a b)

@@ -1,14 +1,14 @@
 -- The form of a picture: what fixes the layout of its samples beside its size, and what follows from it (ITU-T H.264 6.2 and 7.4.2.1.1).
---     chroma_of, depth_of         the numbers of the code's `Kind` and `BitDepth`, which tell them apart (kind_one, depth_one)
---     Form, form_of k d          chroma_format_idc and the bits of a sample
+--     chroma_of, depth_of       the numbers of the code's `Kind` and `BitDepth`, which tell them apart (kind_one, depth_one)
+--     Form, form_of k d         chroma_format_idc and the bits of a sample
 --     mono, colour              whether there is no chroma, or some
 --     planes                    how many planes there are. They are numbered: 0 is Y, 1 Cb, 2 Cr. A plane that a monochrome picture has not is empty: its sizes are 0
---     in_plane                   a number of luma or one of chroma, by the plane
---     bytes_of f n               the bytes of n samples in a row
+--     in_plane                  a number of luma or one of chroma, by the plane
+--     bytes_of f n              the bytes of n samples in a row
 --     sub_width_c, sub_height_c     SubWidthC and SubHeightC (Table 6-1)
---     block_width ..             a plane's block in a macroblock: its columns, rows, bytes of a row, bytes. Of chroma it is MbWidthC by MbHeightC
---     mb_bytes                   the bytes of a macroblock's samples
---     crop_unit_x, crop_unit_y      CropUnitX and CropUnitY
+--     block_width ..            a plane's block in a macroblock: its columns, rows, bytes of a row, bytes. Of chroma it is MbWidthC by MbHeightC
+--     mb_bytes                  the bytes of a macroblock's samples
+--     crop_unit_x, crop_unit_y  CropUnitX and CropUnitY
 -- Another chroma format is one more row of `chroma_of`, `sub_width_c` and `sub_height_c`.
 -- Assumes nothing.
 use Rattle.std.specs.Prelude.{◌≡◌, refl, Bool, true, false, cond, not, ℕ, zero, suc, ◌+◌, ◌-◌, ◌*◌, ◌/◌, ◌≤◌, ◌<◌, eqb}

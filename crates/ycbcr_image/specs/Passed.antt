@@ -6,6 +6,7 @@
 --     Passed, passed, passed_next  what passes the refusals of a start call, and of a next call
 --     mono-alone                   monochrome looks at no chroma plane
 --     stride-zero                  stride 0 falls to 7
+-- Of these proofs/Passed.antt has `passed` and `passed_next`, since an edit of must-fail/ changes what they rest on.
 -- Assumes nothing.
 use Rattle.std.specs.Prelude.{◌≡◌, refl, Bool, true, false, cond, ◌||◌, ℕ, zero, suc, ◌+◌, ◌*◌, ◌≤◌, ◌<◌}
 use Rattle.std.proofs.Common.{sym, ◌∙◌, mul-le-mul_right, suc-mul, mul_assoc, arith, eqb-true, lt-ltb, ne_eqb}

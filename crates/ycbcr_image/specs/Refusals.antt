@@ -1,8 +1,8 @@
 -- The writer's refusals 1 to 8 (01, "Writer's refusals"), each in the words of its row of the table, and the refusal of a call as a function of the
 -- picture's numbers, whatever they are.
---     session_of, of_picture     the session that a picture begins, and what it says
---     plane_of                  a picture's plane by its number
---     size_bad ..               the rows of the table, with `differ` and `odd`
+--     session_of, of_picture   the session that a picture begins, and what it says
+--     plane_of                 a picture's plane by its number
+--     size_bad ..              the rows of the table, with `differ` and `odd`
 --     accepted                 the sizes and kinds that the rows let pass
 --     first                    of two refusals the one that is tested first
 --     refusal_of, refusal_next   the refusal of a start call and of a next call, 0 where there is none

@@ -1,5 +1,5 @@
 -- Which numbers a picture is refused with (01, "Writer's refusals"): 1 to 5 for its size, kind and depths, all others for something else.
---     of_shape                      1 to 5
+--     of_shape                     1 to 5
 --     depths-alike                 planes of one depth are not refused with 2
 --     Shaped, shaped, shaped_next  of planes of one depth 1 to 5 are given exactly where the size is not accepted, and no number is over 8
 -- Assumes nothing.

@@ -1,11 +1,11 @@
 -- The sizes of a picture and of its planes (ITU-T H.264 6.2 and 7.4.2.1.1; 01, "Pictures accepted" and "Writer's refusals").
---     Sequence, sequence_of           what stays the same through a take: width, height, form. A session holds it, and a sequence parameter set says it
+--     Sequence, sequence_of          what stays the same through a take: width, height, form. A session holds it, and a sequence parameter set says it
 --     session_one                    two sessions that say the same are one
---     div_ceil, next_multiple          the quotient rounded up; the next multiple of b: the least that is not below a (next_low, next_high)
+--     div_ceil, next_multiple        the quotient rounded up; the next multiple of b: the least that is not below a (next_low, next_high)
 --     pic_width_in_mbs, frame_height_in_mbs     PicWidthInMbs and FrameHeightInMbs
---     visible_width ..                a plane's own columns, rows and bytes of a row
---     padded_width ..                 the same with the padding, which fills the last blocks
---     tight_length                    the bytes of a plane's visible rows, stored tight
+--     visible_width ..               a plane's own columns, rows and bytes of a row
+--     padded_width ..                the same with the padding, which fills the last blocks
+--     tight_length                   the bytes of a plane's visible rows, stored tight
 -- Planes are numbered as in Form. Assumes nothing.
 use Rattle.std.specs.Prelude.{◌≡◌, refl, Bool, true, false, cond, ℕ, zero, suc, ◌+◌, ◌-◌, ◌*◌, ◌/◌, ◌≤◌, ◌<◌, eqb}
 use Rattle.std.proofs.Common.{ap, mul-le-mul_left, div-mul-le_self, arith}
