@@ -1,5 +1,6 @@
 // A count of comparisons, and the line that is printed of one.
 use std::io;
+use std::io::Write;
 use std::num::wrapping_add_u64;
 
 // How many comparisons were made, and how many of them found a difference.
@@ -33,15 +34,16 @@ pub fn counted(t: Tally, right: bool) -> Tally {
 }
 
 // Prints what was compared, how often, and whether all was right; nothing compared is not right.
-fn print(rt: &impl Print, what: &str, t: Tally) -> io::Result<()> {
+fn print(rt: &impl Print, what: &[u8], t: Tally) -> io::Result<()> {
+    io::writer(rt).write_all(what)?;
     if t.compared != 0 && t.wrong == 0 {
-        return println!(rt; "{what}: {} compared, ok", t.compared);
+        return println!(rt; ": {} compared, ok", t.compared);
     }
-    println!(rt; "{what}: {} compared, WRONG: {}", t.compared, t.wrong)
+    println!(rt; ": {} compared, WRONG: {}", t.compared, t.wrong)
 }
 
 // Prints the count `u`, and adds it to `t`.
-pub fn tell(rt: &impl Print, t: Tally, what: &str, u: Tally) -> io::Result<Tally> {
+pub fn tell(rt: &impl Print, t: Tally, what: &[u8], u: Tally) -> io::Result<Tally> {
     print(rt, what, u)?;
     Ok(Tally {
         compared: wrapping_add_u64(t.compared, u.compared),

@@ -17,14 +17,14 @@ fn run_vectors(rt: &impl Print, t: Tally) -> io::Result<Tally> {
     let t = tell(
         rt,
         t,
-        "test_num_bits, by the lengths of codes",
+        b"test_num_bits, by the lengths of codes",
         vectors::num_bits(),
     )?;
-    let t = tell(rt, t, "test_exp_goloumb", vectors::exp_golomb())?;
+    let t = tell(rt, t, b"test_exp_goloumb", vectors::exp_golomb())?;
     tell(
         rt,
         t,
-        "test_signed_exp_goloumb",
+        b"test_signed_exp_goloumb",
         vectors::signed_exp_golomb(),
     )
 }
@@ -34,19 +34,19 @@ fn run_numbers(rt: &impl Print, t: Tally) -> io::Result<Tally> {
     let t = tell(
         rt,
         t,
-        "the least and the largest numbers",
+        b"the least and the largest numbers",
         limits::numbers(),
     )?;
     let t = tell(
         rt,
         t,
-        "2^32 - 1 and -2^31 refused with 20",
+        b"2^32 - 1 and -2^31 refused with 20",
         limits::without_code(),
     )?;
     tell(
         rt,
         t,
-        "31 leading zeros read, 32 refused with 22",
+        b"31 leading zeros read, 32 refused with 22",
         limits::leading_zeros(),
     )
 }
@@ -56,19 +56,19 @@ fn run_places(rt: &impl Print, t: Tally) -> io::Result<Tally> {
     let t = tell(
         rt,
         t,
-        "an empty buffer refused with 21 and 22",
+        b"an empty buffer refused with 21 and 22",
         limits::empty(),
     )?;
     let t = tell(
         rt,
         t,
-        "the largest places refused with 21 and 22",
+        b"the largest places refused with 21 and 22",
         limits::largest_places(),
     )?;
     tell(
         rt,
         t,
-        "plain bits read or refused with 22",
+        b"plain bits read or refused with 22",
         limits::plain_bits(),
     )
 }
@@ -77,7 +77,7 @@ fn main(rt: HostRuntime) -> io::Result<()> {
     let t = run_vectors(&rt, none())?;
     let t = run_numbers(&rt, t)?;
     let t = run_places(&rt, t)?;
-    let t = tell(&rt, t, "the codes of the list", list::judge_input(&rt)?)?;
-    tell(&rt, none(), "all", t)?;
+    let t = tell(&rt, t, b"the codes of the list", list::judge_input(&rt)?)?;
+    tell(&rt, none(), b"all", t)?;
     Ok(())
 }

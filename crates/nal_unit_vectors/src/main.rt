@@ -13,30 +13,30 @@ use std::io;
 
 // The inputs that are no escape.
 fn run_faults(rt: &impl Print, t: Tally) -> io::Result<Tally> {
-    let t = tell(rt, t, "faults refused with 12", faults::alone())?;
+    let t = tell(rt, t, b"faults refused with 12", faults::alone())?;
     let t = tell(
         rt,
         t,
-        "faults at each place of 200 bytes refused with 12",
+        b"faults at each place of 200 bytes refused with 12",
         faults::around(),
     )?;
-    tell(rt, t, "00 00 03 at the end unescaped", faults::at_end())
+    tell(rt, t, b"00 00 03 at the end unescaped", faults::at_end())
 }
 
 fn main(rt: HostRuntime) -> io::Result<()> {
     let t = tell(
         &rt,
         none(),
-        "the escapes of the list",
+        b"the escapes of the list",
         list::judge_input(&rt)?,
     )?;
     let t = tell(
         &rt,
         t,
-        "all payloads of six bytes 00, 01, 02, 03, 04 and FF",
+        b"all payloads of six bytes 00, 01, 02, 03, 04 and FF",
         small::judge_all(),
     )?;
     let t = run_faults(&rt, t)?;
-    tell(&rt, none(), "all", t)?;
+    tell(&rt, none(), b"all", t)?;
     Ok(())
 }

@@ -95,7 +95,7 @@ fn holds(plane: &[u8; PLANE], wanted: &[u8], fill: u8) -> bool {
 fn judge_in(
     rt: &impl Print,
     t: Tally,
-    name: &str,
+    name: &[u8],
     take: &[u8],
     reader: Reader,
     lent: Lent,
@@ -125,20 +125,20 @@ fn judge_in(
         rt,
         t,
         name,
-        "the answer",
+        b"the answer",
         same_told(in_numbers(answer), wanted),
     )?;
-    let t = counted(rt, t, name, "the place left", left.place == then.place)?;
+    let t = counted(rt, t, name, b"the place left", left.place == then.place)?;
     let t = counted(
         rt,
         t,
         name,
-        "the sets held",
+        b"the sets held",
         same_sets(left_sets, then_sets),
     )?;
-    let t = counted(rt, t, name, "plane Y", holds(&y_plane, y, fill))?;
-    let t = counted(rt, t, name, "plane Cb", holds(&cb_plane, cb, fill))?;
-    let t = counted(rt, t, name, "plane Cr", holds(&cr_plane, cr, fill))?;
+    let t = counted(rt, t, name, b"plane Y", holds(&y_plane, y, fill))?;
+    let t = counted(rt, t, name, b"plane Cb", holds(&cb_plane, cb, fill))?;
+    let t = counted(rt, t, name, b"plane Cr", holds(&cr_plane, cr, fill))?;
     Ok(from(t, left))
 }
 
@@ -146,7 +146,7 @@ fn judge_in(
 pub fn judge(
     rt: &impl Print,
     c: Calls,
-    name: &str,
+    name: &[u8],
     take: &[u8],
     lent: Lent,
     wanted: Told,
@@ -170,7 +170,7 @@ pub fn judge(
 pub fn step(
     rt: &impl Print,
     c: Calls,
-    name: &str,
+    name: &[u8],
     take: &[u8],
     wanted: Told,
     then: Reader,
@@ -182,7 +182,7 @@ pub fn step(
 pub fn once(
     rt: &impl Print,
     t: Tally,
-    name: &str,
+    name: &[u8],
     take: &[u8],
     reader: Reader,
     wanted: Told,
@@ -196,7 +196,7 @@ pub fn once(
 pub fn refuse(
     rt: &impl Print,
     t: Tally,
-    name: &str,
+    name: &[u8],
     take: &[u8],
     reader: Reader,
     number: u32,

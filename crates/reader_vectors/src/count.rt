@@ -1,5 +1,6 @@
 // A count of comparisons, the line that is printed of one, and the lines of those that found a difference.
 use std::io;
+use std::io::Write;
 use std::num::wrapping_add_u64;
 
 // How many comparisons were made, and how many of them found a difference.
@@ -21,8 +22,8 @@ pub fn none() -> Tally {
 pub fn counted(
     rt: &impl Print,
     t: Tally,
-    name: &str,
-    what: &str,
+    name: &[u8],
+    what: &[u8],
     right: bool,
 ) -> io::Result<Tally> {
     let compared = wrapping_add_u64(t.compared, 1);
@@ -32,7 +33,11 @@ pub fn counted(
             wrong: t.wrong,
         });
     }
-    println!(rt; "WRONG in the case \"{name}\": {what}")?;
+    print!(rt; "WRONG in the case \"")?;
+    io::writer(rt).write_all(name)?;
+    print!(rt; "\": ")?;
+    io::writer(rt).write_all(what)?;
+    println!(rt; "")?;
     Ok(Tally {
         compared: compared,
         wrong: wrapping_add_u64(t.wrong, 1),
@@ -40,15 +45,16 @@ pub fn counted(
 }
 
 // Prints what was compared, how often, and whether all was right; nothing compared is not right.
-fn print(rt: &impl Print, what: &str, t: Tally) -> io::Result<()> {
+fn print(rt: &impl Print, what: &[u8], t: Tally) -> io::Result<()> {
+    io::writer(rt).write_all(what)?;
     if t.compared != 0 && t.wrong == 0 {
-        return println!(rt; "{what}: {} compared, ok", t.compared);
+        return println!(rt; ": {} compared, ok", t.compared);
     }
-    println!(rt; "{what}: {} compared, WRONG: {}", t.compared, t.wrong)
+    println!(rt; ": {} compared, WRONG: {}", t.compared, t.wrong)
 }
 
 // Prints the count `u`, and adds it to `t`.
-pub fn tell(rt: &impl Print, t: Tally, what: &str, u: Tally) -> io::Result<Tally> {
+pub fn tell(rt: &impl Print, t: Tally, what: &[u8], u: Tally) -> io::Result<Tally> {
     print(rt, what, u)?;
     Ok(Tally {
         compared: wrapping_add_u64(t.compared, u.compared),

@@ -12,7 +12,7 @@ use std::io;
 use ycbcr_image::Session;
 
 // Has the end answered at `place`, which stays, where no set is held and where both are.
-fn ends(rt: &impl Print, t: Tally, name: &str, take: &[u8], place: usize) -> io::Result<Tally> {
+fn ends(rt: &impl Print, t: Tally, name: &[u8], take: &[u8], place: usize) -> io::Result<Tally> {
     let bare = at(place, nothing());
     let held = at(place, both(mono8(16, 16)));
     let t = once(rt, t, name, take, bare, end(), bare)?;
@@ -22,20 +22,20 @@ fn ends(rt: &impl Print, t: Tally, name: &str, take: &[u8], place: usize) -> io:
 // The end: the place at it, beyond it and at the largest number; empty takes; zeros only.
 pub fn ending(rt: &impl Print) -> io::Result<Tally> {
     let unit = b"\x00\x00\x01\x68\xCE\x38\x80";
-    let t = ends(rt, none(), "the place at the end", unit, 7)?;
-    let t = ends(rt, t, "the place beyond the end", unit, 8)?;
-    let t = ends(rt, t, "the largest place", unit, usize::MAX)?;
-    let t = ends(rt, t, "an empty take", b"", 0)?;
-    let t = ends(rt, t, "an empty take, place 1", b"", 1)?;
-    let t = ends(rt, t, "an empty take, the largest place", b"", usize::MAX)?;
-    let t = ends(rt, t, "one zero", b"\x00", 0)?;
-    let t = ends(rt, t, "three zeros", b"\x00\x00\x00", 0)?;
-    let t = ends(rt, t, "five zeros", b"\x00\x00\x00\x00\x00", 0)?;
-    let t = ends(rt, t, "five zeros, place 3", b"\x00\x00\x00\x00\x00", 3)?;
+    let t = ends(rt, none(), b"the place at the end", unit, 7)?;
+    let t = ends(rt, t, b"the place beyond the end", unit, 8)?;
+    let t = ends(rt, t, b"the largest place", unit, usize::MAX)?;
+    let t = ends(rt, t, b"an empty take", b"", 0)?;
+    let t = ends(rt, t, b"an empty take, place 1", b"", 1)?;
+    let t = ends(rt, t, b"an empty take, the largest place", b"", usize::MAX)?;
+    let t = ends(rt, t, b"one zero", b"\x00", 0)?;
+    let t = ends(rt, t, b"three zeros", b"\x00\x00\x00", 0)?;
+    let t = ends(rt, t, b"five zeros", b"\x00\x00\x00\x00\x00", 0)?;
+    let t = ends(rt, t, b"five zeros, place 3", b"\x00\x00\x00\x00\x00", 3)?;
     ends(
         rt,
         t,
-        "zeros behind a unit",
+        b"zeros behind a unit",
         b"\x00\x00\x01\x68\xCE\x38\x80\x00\x00\x00",
         8,
     )
@@ -49,30 +49,39 @@ pub fn places(rt: &impl Print) -> io::Result<Tally> {
     let t = refuse(
         rt,
         none(),
-        "behind a start code's first zero",
+        b"behind a start code's first zero",
         three,
         at(1, held),
         10,
         1,
         7,
     )?;
-    let t = refuse(rt, t, "behind its second", three, at(2, held), 10, 2, 7)?;
-    let t = refuse(rt, t, "behind it", three, at(3, held), 10, 3, 7)?;
-    let t = refuse(rt, t, "at a unit's last byte", three, at(6, held), 10, 6, 7)?;
+    let t = refuse(rt, t, b"behind its second", three, at(2, held), 10, 2, 7)?;
+    let t = refuse(rt, t, b"behind it", three, at(3, held), 10, 3, 7)?;
+    let t = refuse(
+        rt,
+        t,
+        b"at a unit's last byte",
+        three,
+        at(6, held),
+        10,
+        6,
+        7,
+    )?;
     let t = once(
         rt,
         t,
-        "at the next",
+        b"at the next",
         three,
         at(7, held),
         pps(10),
         at(14, held),
     )?;
-    let t = refuse(rt, t, "within the last", three, at(8, held), 10, 8, 14)?;
+    let t = refuse(rt, t, b"within the last", three, at(8, held), 10, 8, 14)?;
     let t = once(
         rt,
         t,
-        "at the first of three zeros",
+        b"at the first of three zeros",
         four,
         at(0, held),
         pps(4),
@@ -81,18 +90,18 @@ pub fn places(rt: &impl Print) -> io::Result<Tally> {
     let t = once(
         rt,
         t,
-        "at the second",
+        b"at the second",
         four,
         at(1, held),
         pps(4),
         at(8, held),
     )?;
-    refuse(rt, t, "at the third", four, at(2, held), 10, 2, 8)
+    refuse(rt, t, b"at the third", four, at(2, held), 10, 2, 8)
 }
 
 // Zeros behind a unit: the place moves to the start code behind them, or to the end.
 fn zeros(rt: &impl Print, t: Tally) -> io::Result<Tally> {
-    let name = "zeros behind units";
+    let name = b"zeros behind units";
     let take =
         b"\x00\x00\x00\x00\x01\x68\xCE\x38\x80\x00\x00\x00\x00\x01\x68\xCE\x38\x80\x00\x00\x00";
     let c = from(t, at(0, nothing()));
@@ -104,7 +113,7 @@ fn zeros(rt: &impl Print, t: Tally) -> io::Result<Tally> {
 
 // Refusals in turn, and what stands behind them.
 fn onward(rt: &impl Print, t: Tally) -> io::Result<Tally> {
-    let name = "a set behind refusals";
+    let name = b"a set behind refusals";
     let take =
         b"\x05\x00\x00\x01\x00\x00\x01\x41\x00\x00\x01\x68\x00\x00\x02\x00\x00\x01\x68\xCE\x38\x80";
     let c = from(t, at(0, nothing()));
@@ -119,7 +128,7 @@ fn onward(rt: &impl Print, t: Tally) -> io::Result<Tally> {
 
 // Equal sets again: nothing is changed.
 fn again(rt: &impl Print, t: Tally) -> io::Result<Tally> {
-    let name = "equal sets again";
+    let name = b"equal sets again";
     let take =
         b"\x00\x00\x00\x01\x67\x64\x00\x0A\xF3\xDC\x9B\x01\x00\x00\x01\x67\x64\x00\x0A\xF3\xDC\x9B\x01\
         \x00\x00\x01\x68\xCE\x38\x80\x00\x00\x01\x68\xCE\x38\x80\x00\x00\x01\x67\x64\x00\x0A\xF3\xDC\x9B\x01";
@@ -136,7 +145,7 @@ fn again(rt: &impl Print, t: Tally) -> io::Result<Tally> {
 
 // A picture parameter set before the other, and a picture behind both.
 fn turned(rt: &impl Print, t: Tally) -> io::Result<Tally> {
-    let name = "PPS, SPS, picture";
+    let name = b"PPS, SPS, picture";
     let mut bytes = [0x10u8; ROOM];
     put_wide(&mut bytes);
     put_all(
@@ -179,7 +188,7 @@ pub fn walks(rt: &impl Print) -> io::Result<Tally> {
 fn judge_impossible(
     rt: &impl Print,
     t: Tally,
-    name: &str,
+    name: &[u8],
     take: &[u8],
     size: Session,
 ) -> io::Result<Tally> {
@@ -200,72 +209,78 @@ pub fn impossible(rt: &impl Print) -> io::Result<Tally> {
     let mut bytes = [0x10u8; ROOM];
     put_wide(&mut bytes);
     let take = part(&bytes, 0, WIDE);
-    let t = judge_impossible(rt, none(), "16385 columns held", take, mono8(16385, 16))?;
-    let t = judge_impossible(rt, t, "16385 rows held", take, mono8(16, 16385))?;
-    let t = judge_impossible(rt, t, "the largest width held", take, mono8(u32::MAX, 16))?;
-    let t = judge_impossible(rt, t, "no column held", take, mono8(0, 16))?;
-    let t = judge_impossible(rt, t, "no row held", take, mono8(16, 0))?;
-    let t = judge_impossible(rt, t, "colour 8, 17 columns held", take, colour8(17, 16))?;
-    let t = judge_impossible(rt, t, "colour 8, 17 rows held", take, colour8(16, 17))?;
-    let t = judge_impossible(rt, t, "mono 12, 17 columns held", take, mono12(17, 16))?;
-    let t = judge_impossible(rt, t, "colour 12, 18 columns held", take, colour12(18, 16))?;
+    let t = judge_impossible(rt, none(), b"16385 columns held", take, mono8(16385, 16))?;
+    let t = judge_impossible(rt, t, b"16385 rows held", take, mono8(16, 16385))?;
+    let t = judge_impossible(rt, t, b"the largest width held", take, mono8(u32::MAX, 16))?;
+    let t = judge_impossible(rt, t, b"no column held", take, mono8(0, 16))?;
+    let t = judge_impossible(rt, t, b"no row held", take, mono8(16, 0))?;
+    let t = judge_impossible(rt, t, b"colour 8, 17 columns held", take, colour8(17, 16))?;
+    let t = judge_impossible(rt, t, b"colour 8, 17 rows held", take, colour8(16, 17))?;
+    let t = judge_impossible(rt, t, b"mono 12, 17 columns held", take, mono12(17, 16))?;
+    let t = judge_impossible(rt, t, b"colour 12, 18 columns held", take, colour12(18, 16))?;
     let largest = at(22, both(mono8(16384, 16384)));
-    refuse(rt, t, "the largest size held", take, largest, 17, 26, WIDE)
+    refuse(rt, t, b"the largest size held", take, largest, 17, 26, WIDE)
 }
 
 // Has these lengths told of the planes, and 0 of a plane that there is not.
 fn lengths_are(
     rt: &impl Print,
     t: Tally,
-    name: &str,
+    name: &[u8],
     h: HeldSets,
     y: usize,
     cb: usize,
     cr: usize,
 ) -> io::Result<Tally> {
-    let t = counted(rt, t, name, "the length of Y", reader::plane_len(h, 0) == y)?;
     let t = counted(
         rt,
         t,
         name,
-        "the length of Cb",
+        b"the length of Y",
+        reader::plane_len(h, 0) == y,
+    )?;
+    let t = counted(
+        rt,
+        t,
+        name,
+        b"the length of Cb",
         reader::plane_len(h, 1) == cb,
     )?;
     let t = counted(
         rt,
         t,
         name,
-        "the length of Cr",
+        b"the length of Cr",
         reader::plane_len(h, 2) == cr,
     )?;
     let t = counted(
         rt,
         t,
         name,
-        "the length of plane 3",
+        b"the length of plane 3",
         reader::plane_len(h, 3) == 0,
     )?;
     counted(
         rt,
         t,
         name,
-        "the length of the largest plane",
+        b"the length of the largest plane",
         reader::plane_len(h, u32::MAX) == 0,
     )
 }
 
 // The lengths of the planes, stored tight.
 pub fn lengths(rt: &impl Print) -> io::Result<Tally> {
-    let t = lengths_are(rt, none(), "nothing held", nothing(), 0, 0, 0)?;
-    let t = lengths_are(rt, t, "PPS held", pps_only(), 0, 0, 0)?;
-    let t = lengths_are(rt, t, "mono 8, 1 by 1", sps_only(mono8(1, 1)), 1, 0, 0)?;
-    let t = lengths_are(rt, t, "mono 8, 17 by 16", both(mono8(17, 16)), 272, 0, 0)?;
-    let t = lengths_are(rt, t, "mono 12, 30 by 17", both(mono12(30, 17)), 765, 0, 0)?;
-    let t = lengths_are(rt, t, "colour 8, 2 by 2", sps_only(colour8(2, 2)), 4, 1, 1)?;
+    let t = lengths_are(rt, none(), b"nothing held", nothing(), 0, 0, 0)?;
+    let t = lengths_are(rt, t, b"PPS held", pps_only(), 0, 0, 0)?;
+    let t = lengths_are(rt, t, b"mono 8, 1 by 1", sps_only(mono8(1, 1)), 1, 0, 0)?;
+    let t = lengths_are(rt, t, b"mono 8, 17 by 16", both(mono8(17, 16)), 272, 0, 0)?;
+    let t = lengths_are(rt, t, b"mono 12, 30 by 17", both(mono12(30, 17)), 765, 0, 0)?;
+    let t = lengths_are(rt, t, b"colour 8, 2 by 2", sps_only(colour8(2, 2)), 4, 1, 1)?;
     let t = lengths_are(
         rt,
         t,
-        "colour 8, 18 by 34",
+        b"colour 8, 18 by 34",
         both(colour8(18, 34)),
         612,
         153,
@@ -274,7 +289,7 @@ pub fn lengths(rt: &impl Print) -> io::Result<Tally> {
     let t = lengths_are(
         rt,
         t,
-        "colour 12, 20 by 18",
+        b"colour 12, 20 by 18",
         both(colour12(20, 18)),
         540,
         135,
@@ -283,7 +298,7 @@ pub fn lengths(rt: &impl Print) -> io::Result<Tally> {
     lengths_are(
         rt,
         t,
-        "colour 12, the largest size",
+        b"colour 12, the largest size",
         both(colour12(16384, 16384)),
         402653184,
         100663296,

@@ -20,59 +20,59 @@ fn run_refusals(rt: &impl Print, t: Tally) -> io::Result<Tally> {
     let t = tell(
         rt,
         t,
-        "10, bytes that belong to no unit",
+        b"10, bytes that belong to no unit",
         refusals::stray(rt)?,
     )?;
-    let t = tell(rt, t, "11, empty units", refusals::empty(rt)?)?;
+    let t = tell(rt, t, b"11, empty units", refusals::empty(rt)?)?;
     let t = tell(
         rt,
         t,
-        "12, bytes that no escape has",
+        b"12, bytes that no escape has",
         refusals::unescaped(rt)?,
     )?;
-    let t = tell(rt, t, "13, other headers", refusals::headers(rt)?)?;
-    let t = tell(rt, t, "14, sets of no form", refusals::forms(rt)?)?;
+    let t = tell(rt, t, b"13, other headers", refusals::headers(rt)?)?;
+    let t = tell(rt, t, b"14, sets of no form", refusals::forms(rt)?)?;
     let t = tell(
         rt,
         t,
-        "15, other sets than the one held",
+        b"15, other sets than the one held",
         refusals::others(rt)?,
     )?;
     let t = tell(
         rt,
         t,
-        "16, pictures while a set is missing",
+        b"16, pictures while a set is missing",
         refusals::missing(rt)?,
     )?;
     let t = tell(
         rt,
         t,
-        "17, pictures that are too short",
+        b"17, pictures that are too short",
         pictures::short(rt)?,
     )?;
-    let t = tell(rt, t, "18, pictures of no form", pictures::formless(rt)?)?;
+    let t = tell(rt, t, b"18, pictures of no form", pictures::formless(rt)?)?;
     tell(
         rt,
         t,
-        "19, planes that are too short, and the call again",
+        b"19, planes that are too short, and the call again",
         pictures::planes(rt)?,
     )
 }
 
 // The edges.
 fn run_edges(rt: &impl Print, t: Tally) -> io::Result<Tally> {
-    let t = tell(rt, t, "the end", edges::ending(rt)?)?;
-    let t = tell(rt, t, "places", edges::places(rt)?)?;
-    let t = tell(rt, t, "calls in turn", edges::walks(rt)?)?;
-    let t = tell(rt, t, "states that no call leaves", edges::impossible(rt)?)?;
-    tell(rt, t, "the lengths of planes", edges::lengths(rt)?)
+    let t = tell(rt, t, b"the end", edges::ending(rt)?)?;
+    let t = tell(rt, t, b"places", edges::places(rt)?)?;
+    let t = tell(rt, t, b"calls in turn", edges::walks(rt)?)?;
+    let t = tell(rt, t, b"states that no call leaves", edges::impossible(rt)?)?;
+    tell(rt, t, b"the lengths of planes", edges::lengths(rt)?)
 }
 
 fn main(rt: HostRuntime) -> io::Result<()> {
-    let t = tell(&rt, none(), "takes in mono read back", takes::mono(&rt)?)?;
-    let t = tell(&rt, t, "takes in colour read back", takes::colour(&rt)?)?;
+    let t = tell(&rt, none(), b"takes in mono read back", takes::mono(&rt)?)?;
+    let t = tell(&rt, t, b"takes in colour read back", takes::colour(&rt)?)?;
     let t = run_refusals(&rt, t)?;
     let t = run_edges(&rt, t)?;
-    tell(&rt, none(), "all", t)?;
+    tell(&rt, none(), b"all", t)?;
     Ok(())
 }

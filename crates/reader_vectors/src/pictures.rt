@@ -10,7 +10,7 @@ use std::io;
 fn refuse_with(
     rt: &impl Print,
     t: Tally,
-    name: &str,
+    name: &[u8],
     place: usize,
     bytes: &[u8],
     n: usize,
@@ -39,16 +39,16 @@ fn refuse_with(
 
 // 17: a payload that is too short; 18 is not looked at.
 pub fn short(rt: &impl Print) -> io::Result<Tally> {
-    let t = refuse_with(rt, none(), "17, a sample missing", 544, b"\x80", 545, 17)?;
-    let t = refuse_with(rt, t, "17, the last byte missing", 0, b"", 545, 17)?;
-    let t = refuse_with(rt, t, "17, the last byte 00", 545, b"\x00", 546, 17)?;
-    let t = refuse_with(rt, t, "17, header alone", 0, b"", 27, 17)?;
-    let t = refuse_with(rt, t, "17, the slice header alone", 0, b"", 31, 17)?;
-    let t = refuse_with(rt, t, "17, another slice header too", 27, b"\x89", 545, 17)?;
+    let t = refuse_with(rt, none(), b"17, a sample missing", 544, b"\x80", 545, 17)?;
+    let t = refuse_with(rt, t, b"17, the last byte missing", 0, b"", 545, 17)?;
+    let t = refuse_with(rt, t, b"17, the last byte 00", 545, b"\x00", 546, 17)?;
+    let t = refuse_with(rt, t, b"17, header alone", 0, b"", 27, 17)?;
+    let t = refuse_with(rt, t, b"17, the slice header alone", 0, b"", 31, 17)?;
+    let t = refuse_with(rt, t, b"17, another slice header too", 27, b"\x89", 545, 17)?;
     let t = refuse_with(
         rt,
         t,
-        "17, two zeros for three bytes",
+        b"17, two zeros for three bytes",
         543,
         b"\x00\x00\x03",
         546,
@@ -57,7 +57,7 @@ pub fn short(rt: &impl Print) -> io::Result<Tally> {
     refuse(
         rt,
         t,
-        "17, of 1 by 1",
+        b"17, of 1 by 1",
         b"\x00\x00\x01\x25\x88\x84\x28\x68\x80",
         at(0, both(mono8(1, 1))),
         17,
@@ -67,7 +67,7 @@ pub fn short(rt: &impl Print) -> io::Result<Tally> {
 }
 
 // Has the picture refused with 18 where the bit number `k` is changed.
-fn refuse_bit(rt: &impl Print, t: Tally, name: &str, k: usize) -> io::Result<Tally> {
+fn refuse_bit(rt: &impl Print, t: Tally, name: &[u8], k: usize) -> io::Result<Tally> {
     let mut take = [0x10u8; ROOM];
     put_wide(&mut take);
     flip(&mut take, k);
@@ -87,7 +87,7 @@ fn refuse_bit(rt: &impl Print, t: Tally, name: &str, k: usize) -> io::Result<Tal
 fn refuse_bits(
     rt: &impl Print,
     t: Tally,
-    name: &str,
+    name: &[u8],
     start: usize,
     stop: usize,
 ) -> io::Result<Tally> {
@@ -102,37 +102,37 @@ fn refuse_bits(
 
 // 18: a payload that is longer, or not of a picture's form.
 pub fn formless(rt: &impl Print) -> io::Result<Tally> {
-    let t = refuse_with(rt, none(), "18, a last byte more", 546, b"\x80", 547, 18)?;
-    let t = refuse_with(rt, t, "18, a sample more", 545, b"\x10\x80", 547, 18)?;
-    let t = refuse_with(rt, t, "18, two zeros more", 546, b"\x00\x00\x03", 549, 18)?;
+    let t = refuse_with(rt, none(), b"18, a last byte more", 546, b"\x80", 547, 18)?;
+    let t = refuse_with(rt, t, b"18, a sample more", 545, b"\x10\x80", 547, 18)?;
+    let t = refuse_with(rt, t, b"18, two zeros more", 546, b"\x00\x00\x03", 549, 18)?;
     let t = refuse_with(
         rt,
         t,
-        "18, two zeros for two bytes",
+        b"18, two zeros for two bytes",
         544,
         b"\x00\x00\x03",
         547,
         18,
     )?;
-    let t = refuse_with(rt, t, "18, a last byte 81", 545, b"\x81", 546, 18)?;
-    let t = refuse_with(rt, t, "18, a last byte 40", 545, b"\x40", 546, 18)?;
+    let t = refuse_with(rt, t, b"18, a last byte 81", 545, b"\x81", 546, 18)?;
+    let t = refuse_with(rt, t, b"18, a last byte 40", 545, b"\x40", 546, 18)?;
     let t = refuse_with(
         rt,
         t,
-        "18, a sample for the last byte",
+        b"18, a sample for the last byte",
         545,
         b"\x10",
         546,
         18,
     )?;
-    let t = refuse_with(rt, t, "18, a head for the first", 29, b"\x0D\x00", 546, 18)?;
-    let t = refuse_with(rt, t, "18, a sample for a head", 287, b"\x10\x10", 546, 18)?;
-    let t = refuse_bits(rt, t, "18, a bit of the slice header", 216, 248)?;
-    refuse_bits(rt, t, "18, a bit of a macroblock's head", 2296, 2312)
+    let t = refuse_with(rt, t, b"18, a head for the first", 29, b"\x0D\x00", 546, 18)?;
+    let t = refuse_with(rt, t, b"18, a sample for a head", 287, b"\x10\x10", 546, 18)?;
+    let t = refuse_bits(rt, t, b"18, a bit of the slice header", 216, 248)?;
+    refuse_bits(rt, t, b"18, a bit of a macroblock's head", 2296, 2312)
 }
 
 // A call with the picture in colour, that answers 19 and stays.
-fn keep(rt: &impl Print, c: Calls, name: &str, take: &[u8], lent: Lent) -> io::Result<Calls> {
+fn keep(rt: &impl Print, c: Calls, name: &[u8], take: &[u8], lent: Lent) -> io::Result<Calls> {
     let reader = at(20, both(colour8(16, 16)));
     judge(
         rt,
@@ -155,15 +155,15 @@ fn colour_planes(rt: &impl Print, t: Tally, take: &[u8]) -> io::Result<Tally> {
     let cr = [0x30u8; 64];
     let sets = both(colour8(16, 16));
     let c = from(t, at(20, sets));
-    let c = keep(rt, c, "19, Y a byte short", take, lend(255, 64, 64))?;
-    let c = keep(rt, c, "19, Cb a byte short", take, lend(256, 63, 64))?;
-    let c = keep(rt, c, "19, Cr a byte short", take, lend(256, 64, 63))?;
-    let c = keep(rt, c, "19, Y alone", take, lend(256, 0, 0))?;
-    let c = keep(rt, c, "19, no plane", take, lend(0, 0, 0))?;
+    let c = keep(rt, c, b"19, Y a byte short", take, lend(255, 64, 64))?;
+    let c = keep(rt, c, b"19, Cb a byte short", take, lend(256, 63, 64))?;
+    let c = keep(rt, c, b"19, Cr a byte short", take, lend(256, 64, 63))?;
+    let c = keep(rt, c, b"19, Y alone", take, lend(256, 0, 0))?;
+    let c = keep(rt, c, b"19, no plane", take, lend(0, 0, 0))?;
     let c = judge(
         rt,
         c,
-        "19, then enough",
+        b"19, then enough",
         take,
         lend(256, 64, 64),
         picture(24),
@@ -183,7 +183,7 @@ fn mono_planes(rt: &impl Print, t: Tally, take: &[u8]) -> io::Result<Tally> {
     let c = judge(
         rt,
         c,
-        "19, mono, a byte short",
+        b"19, mono, a byte short",
         take,
         lend(271, 1000, 1000),
         refused(19, 26),
@@ -195,7 +195,7 @@ fn mono_planes(rt: &impl Print, t: Tally, take: &[u8]) -> io::Result<Tally> {
     let c = judge(
         rt,
         c,
-        "19, mono, then enough",
+        b"19, mono, then enough",
         take,
         lend(272, 0, 0),
         picture(26),

@@ -11,7 +11,7 @@ use ycbcr_image::Session;
 fn refuse_first(
     rt: &impl Print,
     t: Tally,
-    name: &str,
+    name: &[u8],
     take: &[u8],
     number: u32,
     offset: usize,
@@ -43,23 +43,23 @@ fn refuse_first(
 
 // 10: bytes that belong to no unit. The offset is the place, and the next place is the start code found, or the end.
 pub fn stray(rt: &impl Print) -> io::Result<Tally> {
-    let t = refuse_first(rt, none(), "10, one byte", b"\x05", 10, 0, 1)?;
-    let t = refuse_first(rt, t, "10, one byte 01", b"\x01", 10, 0, 1)?;
-    let t = refuse_first(rt, t, "10, a byte behind a zero", b"\x00\x01", 10, 0, 2)?;
+    let t = refuse_first(rt, none(), b"10, one byte", b"\x05", 10, 0, 1)?;
+    let t = refuse_first(rt, t, b"10, one byte 01", b"\x01", 10, 0, 1)?;
+    let t = refuse_first(rt, t, b"10, a byte behind a zero", b"\x00\x01", 10, 0, 2)?;
     let t = refuse_first(
         rt,
         t,
-        "10, a byte behind two zeros",
+        b"10, a byte behind two zeros",
         b"\x00\x00\x02",
         10,
         0,
         3,
     )?;
-    let t = refuse_first(rt, t, "10, zeros behind", b"\x05\x00\x00", 10, 0, 3)?;
+    let t = refuse_first(rt, t, b"10, zeros behind", b"\x05\x00\x00", 10, 0, 3)?;
     let t = refuse_first(
         rt,
         t,
-        "10, before a start code",
+        b"10, before a start code",
         b"\x05\x00\x00\x01\x68\xCE\x38\x80",
         10,
         0,
@@ -68,7 +68,7 @@ pub fn stray(rt: &impl Print) -> io::Result<Tally> {
     let t = refuse_first(
         rt,
         t,
-        "10, before a start code of four bytes",
+        b"10, before a start code of four bytes",
         b"\x00\x05\x00\x00\x00\x01\x68\xCE\x38\x80",
         10,
         0,
@@ -77,7 +77,7 @@ pub fn stray(rt: &impl Print) -> io::Result<Tally> {
     refuse(
         rt,
         t,
-        "10, within a unit, before another",
+        b"10, within a unit, before another",
         b"\x00\x00\x01\x68\xCE\x38\x80\x00\x00\x01\x68\xCE\x38\x80",
         at(4, nothing()),
         10,
@@ -88,11 +88,11 @@ pub fn stray(rt: &impl Print) -> io::Result<Tally> {
 
 // 11: an empty unit.
 pub fn empty(rt: &impl Print) -> io::Result<Tally> {
-    let t = refuse_first(rt, none(), "11, a start code", b"\x00\x00\x01", 11, 3, 3)?;
+    let t = refuse_first(rt, none(), b"11, a start code", b"\x00\x00\x01", 11, 3, 3)?;
     let t = refuse_first(
         rt,
         t,
-        "11, one of four bytes",
+        b"11, one of four bytes",
         b"\x00\x00\x00\x01",
         11,
         4,
@@ -101,7 +101,7 @@ pub fn empty(rt: &impl Print) -> io::Result<Tally> {
     let t = refuse_first(
         rt,
         t,
-        "11, zeros behind",
+        b"11, zeros behind",
         b"\x00\x00\x01\x00\x00\x00",
         11,
         3,
@@ -110,7 +110,7 @@ pub fn empty(rt: &impl Print) -> io::Result<Tally> {
     let t = refuse_first(
         rt,
         t,
-        "11, two start codes",
+        b"11, two start codes",
         b"\x00\x00\x01\x00\x00\x01\x68\xCE\x38\x80",
         11,
         3,
@@ -119,7 +119,7 @@ pub fn empty(rt: &impl Print) -> io::Result<Tally> {
     refuse_first(
         rt,
         t,
-        "11, two of four bytes",
+        b"11, two of four bytes",
         b"\x00\x00\x00\x01\x00\x00\x00\x01\x68\xCE\x38\x80",
         11,
         4,
@@ -132,7 +132,7 @@ pub fn unescaped(rt: &impl Print) -> io::Result<Tally> {
     let t = refuse_first(
         rt,
         none(),
-        "12, 00 00 03 04",
+        b"12, 00 00 03 04",
         b"\x00\x00\x01\x68\x00\x00\x03\x04",
         12,
         3,
@@ -141,7 +141,7 @@ pub fn unescaped(rt: &impl Print) -> io::Result<Tally> {
     let t = refuse_first(
         rt,
         t,
-        "12, 00 00 03 FF",
+        b"12, 00 00 03 FF",
         b"\x00\x00\x01\x68\x00\x00\x03\xFF",
         12,
         3,
@@ -150,7 +150,7 @@ pub fn unescaped(rt: &impl Print) -> io::Result<Tally> {
     let t = refuse_first(
         rt,
         t,
-        "12, 00 00 02",
+        b"12, 00 00 02",
         b"\x00\x00\x01\x68\x00\x00\x02",
         12,
         3,
@@ -159,7 +159,7 @@ pub fn unescaped(rt: &impl Print) -> io::Result<Tally> {
     let t = refuse_first(
         rt,
         t,
-        "12, 00 00 00",
+        b"12, 00 00 00",
         b"\x00\x00\x01\x68\x00\x00\x00\x04",
         12,
         3,
@@ -168,7 +168,7 @@ pub fn unescaped(rt: &impl Print) -> io::Result<Tally> {
     let t = refuse_first(
         rt,
         t,
-        "12, header 00",
+        b"12, header 00",
         b"\x00\x00\x01\x00\x00\x02",
         12,
         3,
@@ -177,7 +177,7 @@ pub fn unescaped(rt: &impl Print) -> io::Result<Tally> {
     let t = refuse_first(
         rt,
         t,
-        "12, another header",
+        b"12, another header",
         b"\x00\x00\x01\x41\x00\x00\x02",
         12,
         3,
@@ -186,7 +186,7 @@ pub fn unescaped(rt: &impl Print) -> io::Result<Tally> {
     let t = refuse_first(
         rt,
         t,
-        "12, behind an inserted byte",
+        b"12, behind an inserted byte",
         b"\x00\x00\x01\x68\x00\x00\x03\x00\x00\x02\x00\x00\x01",
         12,
         3,
@@ -195,7 +195,7 @@ pub fn unescaped(rt: &impl Print) -> io::Result<Tally> {
     refuse_first(
         rt,
         t,
-        "12, a whole set before it",
+        b"12, a whole set before it",
         b"\x00\x00\x01\x68\xCE\x38\x80\x00\x00\x03\x04",
         12,
         3,
@@ -205,25 +205,33 @@ pub fn unescaped(rt: &impl Print) -> io::Result<Tally> {
 
 // 13: another header. It goes before 14.
 pub fn headers(rt: &impl Print) -> io::Result<Tally> {
-    let t = refuse_first(rt, none(), "13, header 41", b"\x00\x00\x01\x41", 13, 3, 4)?;
-    let t = refuse_first(rt, t, "13, header 00", b"\x00\x00\x01\x00\x05", 13, 3, 5)?;
-    let t = refuse_first(rt, t, "13, 00 00 03", b"\x00\x00\x01\x00\x00\x03", 13, 3, 6)?;
+    let t = refuse_first(rt, none(), b"13, header 41", b"\x00\x00\x01\x41", 13, 3, 4)?;
+    let t = refuse_first(rt, t, b"13, header 00", b"\x00\x00\x01\x00\x05", 13, 3, 5)?;
     let t = refuse_first(
         rt,
         t,
-        "13, 00 00 03 03",
+        b"13, 00 00 03",
+        b"\x00\x00\x01\x00\x00\x03",
+        13,
+        3,
+        6,
+    )?;
+    let t = refuse_first(
+        rt,
+        t,
+        b"13, 00 00 03 03",
         b"\x00\x00\x01\x00\x00\x03\x03",
         13,
         3,
         7,
     )?;
-    let t = refuse_first(rt, t, "13, header 01", b"\x00\x00\x01\x01", 13, 3, 4)?;
-    let t = refuse_first(rt, t, "13, header 65", b"\x00\x00\x01\x65", 13, 3, 4)?;
-    let t = refuse_first(rt, t, "13, header A5", b"\x00\x00\x01\xA5", 13, 3, 4)?;
+    let t = refuse_first(rt, t, b"13, header 01", b"\x00\x00\x01\x01", 13, 3, 4)?;
+    let t = refuse_first(rt, t, b"13, header 65", b"\x00\x00\x01\x65", 13, 3, 4)?;
+    let t = refuse_first(rt, t, b"13, header A5", b"\x00\x00\x01\xA5", 13, 3, 4)?;
     let t = refuse_first(
         rt,
         t,
-        "13, header 06",
+        b"13, header 06",
         b"\x00\x00\x01\x06\x05\x80",
         13,
         3,
@@ -232,7 +240,7 @@ pub fn headers(rt: &impl Print) -> io::Result<Tally> {
     let t = refuse_first(
         rt,
         t,
-        "13, header 48",
+        b"13, header 48",
         b"\x00\x00\x01\x48\xCE\x38\x80",
         13,
         3,
@@ -241,7 +249,7 @@ pub fn headers(rt: &impl Print) -> io::Result<Tally> {
     refuse_first(
         rt,
         t,
-        "13, header 27",
+        b"13, header 27",
         b"\x00\x00\x00\x01\x27\x64\x00\x0A\xF3\xDC\x9B\x01\x00\x00\x01",
         13,
         4,
@@ -253,7 +261,7 @@ pub fn headers(rt: &impl Print) -> io::Result<Tally> {
 fn refuse_flipped(
     rt: &impl Print,
     t: Tally,
-    name: &str,
+    name: &[u8],
     set: &[u8],
     k: usize,
 ) -> io::Result<Tally> {
@@ -264,7 +272,7 @@ fn refuse_flipped(
 }
 
 // The same of each bit from the number 40 on, behind the header, to `to`.
-fn refuse_bits(rt: &impl Print, t: Tally, name: &str, set: &[u8], to: usize) -> io::Result<Tally> {
+fn refuse_bits(rt: &impl Print, t: Tally, name: &[u8], set: &[u8], to: usize) -> io::Result<Tally> {
     let mut u = t;
     let mut k = 40;
     while k < to {
@@ -279,14 +287,14 @@ fn sequences(rt: &impl Print) -> io::Result<Tally> {
     let t = refuse_bits(
         rt,
         none(),
-        "14, SPS, a bit",
+        b"14, SPS, a bit",
         b"\x00\x00\x00\x01\x67\x64\x00\x0A\xF3\xDC\x9B\x01",
         96,
     )?;
     let t = refuse_first(
         rt,
         t,
-        "14, SPS, header alone",
+        b"14, SPS, header alone",
         b"\x00\x00\x01\x67",
         14,
         3,
@@ -295,7 +303,7 @@ fn sequences(rt: &impl Print) -> io::Result<Tally> {
     let t = refuse_first(
         rt,
         t,
-        "14, SPS, a byte short",
+        b"14, SPS, a byte short",
         b"\x00\x00\x01\x67\x64\x00\x0A\xF3\xDC\x9B",
         14,
         3,
@@ -304,7 +312,7 @@ fn sequences(rt: &impl Print) -> io::Result<Tally> {
     let t = refuse_first(
         rt,
         t,
-        "14, SPS, a byte longer",
+        b"14, SPS, a byte longer",
         b"\x00\x00\x01\x67\x64\x00\x0A\xF3\xDC\x9B\x01\x80",
         14,
         3,
@@ -313,7 +321,7 @@ fn sequences(rt: &impl Print) -> io::Result<Tally> {
     let t = refuse_first(
         rt,
         t,
-        "14, SPS, two zeros longer",
+        b"14, SPS, two zeros longer",
         b"\x00\x00\x01\x67\x64\x00\x0A\xF3\xDC\x9B\x01\x00\x00\x03",
         14,
         3,
@@ -322,7 +330,7 @@ fn sequences(rt: &impl Print) -> io::Result<Tally> {
     refuse_first(
         rt,
         t,
-        "14, SPS, another level",
+        b"14, SPS, another level",
         b"\x00\x00\x01\x67\x64\x00\x0B\xF3\xCB\x61\x0E\x6C\x04\x00\x00\x01",
         14,
         3,
@@ -335,14 +343,14 @@ pub fn forms(rt: &impl Print) -> io::Result<Tally> {
     let t = refuse_bits(
         rt,
         sequences(rt)?,
-        "14, PPS, a bit",
+        b"14, PPS, a bit",
         b"\x00\x00\x00\x01\x68\xCE\x38\x80",
         64,
     )?;
     let t = refuse_first(
         rt,
         t,
-        "14, PPS, header alone",
+        b"14, PPS, header alone",
         b"\x00\x00\x01\x68",
         14,
         3,
@@ -351,7 +359,7 @@ pub fn forms(rt: &impl Print) -> io::Result<Tally> {
     let t = refuse_first(
         rt,
         t,
-        "14, PPS, a byte short",
+        b"14, PPS, a byte short",
         b"\x00\x00\x01\x68\xCE\x38",
         14,
         3,
@@ -360,7 +368,7 @@ pub fn forms(rt: &impl Print) -> io::Result<Tally> {
     let t = refuse_first(
         rt,
         t,
-        "14, PPS, a byte longer",
+        b"14, PPS, a byte longer",
         b"\x00\x00\x01\x68\xCE\x38\x80\x80",
         14,
         3,
@@ -369,7 +377,7 @@ pub fn forms(rt: &impl Print) -> io::Result<Tally> {
     refuse_first(
         rt,
         t,
-        "14, PPS, two zeros longer",
+        b"14, PPS, two zeros longer",
         b"\x00\x00\x01\x68\xCE\x38\x80\x00\x00\x03",
         14,
         3,
@@ -381,7 +389,7 @@ pub fn forms(rt: &impl Print) -> io::Result<Tally> {
 fn refuse_other(
     rt: &impl Print,
     t: Tally,
-    name: &str,
+    name: &[u8],
     take: &[u8],
     held: Session,
 ) -> io::Result<Tally> {
@@ -393,37 +401,37 @@ fn refuse_other(
 // 15: a sequence parameter set of another size or kind. The last differs in a single bit from that of 17 by 16, and where none is held it is taken.
 pub fn others(rt: &impl Print) -> io::Result<Tally> {
     let mono = b"\x00\x00\x00\x01\x67\x64\x00\x0A\xF3\xDC\x9B\x01";
-    let t = refuse_other(rt, none(), "15, another width", mono, mono8(17, 16))?;
-    let t = refuse_other(rt, t, "15, another height", mono, mono8(16, 15))?;
-    let t = refuse_other(rt, t, "15, another depth", mono, mono12(16, 16))?;
-    let t = refuse_other(rt, t, "15, another kind", mono, colour8(16, 16))?;
+    let t = refuse_other(rt, none(), b"15, another width", mono, mono8(17, 16))?;
+    let t = refuse_other(rt, t, b"15, another height", mono, mono8(16, 15))?;
+    let t = refuse_other(rt, t, b"15, another depth", mono, mono12(16, 16))?;
+    let t = refuse_other(rt, t, b"15, another kind", mono, colour8(16, 16))?;
     let t = refuse_other(
         rt,
         t,
-        "15, mono 12",
+        b"15, mono 12",
         b"\x00\x00\x00\x01\x67\xF4\x00\x0A\xCA\x53\xDC\x9B\x01",
         mono8(16, 16),
     )?;
     let t = refuse_other(
         rt,
         t,
-        "15, colour 8",
+        b"15, colour 8",
         b"\x00\x00\x00\x01\x67\x42\x00\x0A\xFB\x93\x60\x20",
         mono8(16, 16),
     )?;
     let t = refuse_other(
         rt,
         t,
-        "15, colour 12",
+        b"15, colour 12",
         b"\x00\x00\x00\x01\x67\xF4\x00\x0A\xA2\x94\xF7\x26\xC0\x40",
         colour8(16, 16),
     )?;
     let one = b"\x00\x00\x00\x01\x67\x64\x00\x0A\xF3\xCF\x61\x0E\x6C\x04";
-    let t = refuse_other(rt, t, "15, 33 by 16 for 17 by 16", one, mono8(17, 16))?;
+    let t = refuse_other(rt, t, b"15, 33 by 16 for 17 by 16", one, mono8(17, 16))?;
     once(
         rt,
         t,
-        "15, 33 by 16 for none",
+        b"15, 33 by 16 for none",
         one,
         at(0, nothing()),
         sps(4, mono8(33, 16)),
@@ -435,7 +443,7 @@ pub fn others(rt: &impl Print) -> io::Result<Tally> {
 fn refuse_missing(
     rt: &impl Print,
     t: Tally,
-    name: &str,
+    name: &[u8],
     take: &[u8],
     place: usize,
     offset: usize,
@@ -459,6 +467,6 @@ fn refuse_missing(
 pub fn missing(rt: &impl Print) -> io::Result<Tally> {
     let mut take = [0x10u8; ROOM];
     put_wide(&mut take);
-    let t = refuse_missing(rt, none(), "16, a picture", part(&take, 0, WIDE), 22, 26)?;
-    refuse_missing(rt, t, "16, header alone", b"\x00\x00\x01\x25", 0, 3)
+    let t = refuse_missing(rt, none(), b"16, a picture", part(&take, 0, WIDE), 22, 26)?;
+    refuse_missing(rt, t, b"16, header alone", b"\x00\x00\x01\x25", 0, 3)
 }

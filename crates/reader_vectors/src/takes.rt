@@ -155,7 +155,7 @@ fn lent_for(s: Shots, k: u64) -> Lent {
 fn read_picture(
     rt: &impl Print,
     c: Calls,
-    name: &str,
+    name: &[u8],
     take: &[u8],
     s: Shots,
     content: u64,
@@ -201,7 +201,7 @@ fn read_picture(
 }
 
 // Reads the sets.
-fn read_sets(rt: &impl Print, c: Calls, name: &str, take: &[u8], s: Shots) -> io::Result<Calls> {
+fn read_sets(rt: &impl Print, c: Calls, name: &[u8], take: &[u8], s: Shots) -> io::Result<Calls> {
     let size = s.size;
     let n = s.sps;
     let then = at(wrapping_add_usize(n, 5), sps_only(size));
@@ -214,7 +214,7 @@ fn read_sets(rt: &impl Print, c: Calls, name: &str, take: &[u8], s: Shots) -> io
 fn read_back(
     rt: &impl Print,
     t: Tally,
-    name: &str,
+    name: &[u8],
     take: &[u8],
     s: Shots,
     content: u64,
@@ -243,17 +243,17 @@ fn first(take: &[u8; ROOM], n: usize) -> &[u8] {
 }
 
 // Writes a take and reads it back.
-fn judge_take(rt: &impl Print, t: Tally, name: &str, s: Shots, content: u64) -> io::Result<Tally> {
+fn judge_take(rt: &impl Print, t: Tally, name: &[u8], s: Shots, content: u64) -> io::Result<Tally> {
     let mut take = [0x55u8; ROOM];
     let second = write_drawn(&mut take, 0, s, content, 0);
     let third = write_drawn(&mut take, second, s, content, 1);
     let n = write_drawn(&mut take, third, s, content, 2);
-    let t = counted(rt, t, name, "the writing", n <= ROOM)?;
+    let t = counted(rt, t, name, b"the writing", n <= ROOM)?;
     read_back(rt, t, name, first(&take, n), s, content, second, third)
 }
 
 // A take that begins with each content.
-fn judge_each(rt: &impl Print, t: Tally, name: &str, s: Shots) -> io::Result<Tally> {
+fn judge_each(rt: &impl Print, t: Tally, name: &[u8], s: Shots) -> io::Result<Tally> {
     let mut u = t;
     let mut content = 0;
     while content < 4 {
@@ -267,7 +267,7 @@ fn judge_each(rt: &impl Print, t: Tally, name: &str, s: Shots) -> io::Result<Tal
 fn judge_shots(
     rt: &impl Print,
     t: Tally,
-    name: &str,
+    name: &[u8],
     size: Session,
     y: Plane,
     chroma: Plane,
@@ -288,7 +288,7 @@ pub fn mono(rt: &impl Print) -> io::Result<Tally> {
     let t = judge_shots(
         rt,
         none(),
-        "mono 8, 1 by 1",
+        b"mono 8, 1 by 1",
         mono8(1, 1),
         strided(1, 18, 304, 1),
         no,
@@ -297,7 +297,7 @@ pub fn mono(rt: &impl Print) -> io::Result<Tally> {
     let t = judge_shots(
         rt,
         t,
-        "mono 8, 16 by 16",
+        b"mono 8, 16 by 16",
         mono8(16, 16),
         strided(16, 0, 256, 256),
         no,
@@ -306,7 +306,7 @@ pub fn mono(rt: &impl Print) -> io::Result<Tally> {
     let t = judge_shots(
         rt,
         t,
-        "mono 8, 17 by 16",
+        b"mono 8, 17 by 16",
         mono8(17, 16),
         strided(17, 18, 560, 272),
         no,
@@ -315,7 +315,7 @@ pub fn mono(rt: &impl Print) -> io::Result<Tally> {
     let t = judge_shots(
         rt,
         t,
-        "mono 12, 16 by 16",
+        b"mono 12, 16 by 16",
         mono12(16, 16),
         strided(24, 0, 384, 384),
         no,
@@ -324,7 +324,7 @@ pub fn mono(rt: &impl Print) -> io::Result<Tally> {
     judge_shots(
         rt,
         t,
-        "mono 12, 30 by 17",
+        b"mono 12, 30 by 17",
         mono12(30, 17),
         strided(45, 6, 1632, 765),
         no,
@@ -337,7 +337,7 @@ pub fn colour(rt: &impl Print) -> io::Result<Tally> {
     let t = judge_shots(
         rt,
         none(),
-        "colour 8, 16 by 16",
+        b"colour 8, 16 by 16",
         colour8(16, 16),
         strided(16, 0, 256, 256),
         strided(8, 0, 64, 64),
@@ -346,7 +346,7 @@ pub fn colour(rt: &impl Print) -> io::Result<Tally> {
     let t = judge_shots(
         rt,
         t,
-        "colour 8, 18 by 34",
+        b"colour 8, 18 by 34",
         colour8(18, 34),
         strided(18, 17, 1680, 612),
         strided(9, 10, 456, 153),
@@ -355,7 +355,7 @@ pub fn colour(rt: &impl Print) -> io::Result<Tally> {
     let t = judge_shots(
         rt,
         t,
-        "colour 12, 16 by 16",
+        b"colour 12, 16 by 16",
         colour12(16, 16),
         strided(24, 0, 384, 384),
         strided(12, 0, 96, 96),
@@ -364,7 +364,7 @@ pub fn colour(rt: &impl Print) -> io::Result<Tally> {
     judge_shots(
         rt,
         t,
-        "colour 12, 20 by 18",
+        b"colour 12, 20 by 18",
         colour12(20, 18),
         strided(30, 21, 1632, 540),
         strided(15, 12, 432, 135),
