@@ -1,5 +1,5 @@
 -- The macroblocks of a picture as its writer goes over them: laws that the code cites.
---     lend, lends            a lent plane; the three of a call
+--     lend, lends, lends_in  a lent plane; the three of a call; those of a value of Planes
 --     Ready q L              an accepted size, and planes that are lent whole
 --     macroblock_in q L i    macroblock i with what stands before its samples
 --     picture_is             a picture's payload is its macroblocks, and 80
@@ -21,6 +21,7 @@ use Rattle.ycbcr_image.specs.declared.Session.{Session}
 use Rattle.ycbcr_image.specs.Form.{form_of, sub_width_c, sub_height_c, Form, mono, planes, in_plane, block_width, block_height, block_row_bytes, block_bytes, bytes_of, mb_bytes, planes_some, planes-colour}
 use Rattle.ycbcr_image.specs.Sizes.{Sequence, sequence_of, pic_width_in_mbs, frame_height_in_mbs}
 use Rattle.ycbcr_image.specs.Accepted.{Fine, mbs_most}
+use Rattle.slice.specs.declared.Planes.{Planes}
 use Rattle.slice.specs.declared.Strides.{Strides}
 use Rattle.slice.specs.Cat.{cat, cat_none, cat-length, rows_of, rows_even, Even}
 use Rattle.slice.specs.Layout.{block, block_is, block-lent, mb, mb_one, mb-three, mb_at, mb_at_lem, head, head_first, head_next, macroblock, slice_is}
@@ -34,6 +35,10 @@ lend s stride = record { bytes = s; stride = stride }
 
 abbrev pub lends : List ℕ → List ℕ → List ℕ → Strides → Lends
 lends y cb cr t = record { y = lend y t.y; cb = lend cb t.cb; cr = lend cr t.cr }
+
+-- those of a call in one value
+abbrev pub lends_in : Planes → Lends
+lends_in p = lends p.y.now p.cb.now p.cr.now p.strides
 
 pub record Ready (q : Sequence) (L : Lends) : Type 0 where
   pub fine : Fine q

@@ -21,6 +21,15 @@ pub struct Strides {
     pub cr: usize,
 }
 
+// The lent planes of a picture.
+#[derive(Clone, Copy)]
+pub struct Planes<'a> {
+    pub y: &'a [u8],
+    pub cb: &'a [u8],
+    pub cr: &'a [u8],
+    pub strides: Strides,
+}
+
 // The length of a picture's payload: four bytes of header, two before each other macroblock, the samples, the last byte.
 pub fn payload_len(s: Session) -> usize
     requires { Fine (sequence_of s) }

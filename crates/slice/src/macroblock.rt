@@ -9,9 +9,9 @@ ghost use Rattle.slice.specs.Cat.{cat, rows_of};
 ghost use Rattle.slice.specs.Layout.{head};
 ghost use Rattle.slice.specs.Header.{header_of};
 ghost use Rattle.slice.specs.Laid.{Laid};
-ghost use Rattle.slice.specs.Macroblocks.{lend, lends, Ready, Inside, block_in, samples_at, macroblock_in};
+ghost use Rattle.slice.specs.Macroblocks.{lend, lends_in, Ready, Inside, block_in, samples_at, macroblock_in};
 
-use crate::Strides;
+use crate::Planes;
 use nal_unit::rows;
 use ycbcr_image::Session;
 
@@ -115,25 +115,15 @@ fn block(
 }
 
 // Lays the samples of the macroblock in row my and column mx. In monochrome the blocks of Cb and Cr are empty.
-fn samples(
-    y: &[u8],
-    cb: &[u8],
-    cr: &[u8],
-    strides: Strides,
-    s: Session,
-    my: usize,
-    mx: usize,
-    out: &mut [u8],
-    at: usize,
-) -> usize
-    requires ready { Ready (sequence_of s) (lends y.now cb.now cr.now strides) }
+fn samples(planes: Planes, s: Session, my: usize, mx: usize, out: &mut [u8], at: usize) -> usize
+    requires ready { Ready (sequence_of s) (lends_in planes) }
     requires my_bound { (my < frame_height_in_mbs (sequence_of s)) × (mx < pic_width_in_mbs (sequence_of s)) }
     requires s_in_bounds { at + mb_bytes (sequence_of s).form ≤ length out.old }
-    ensures { Laid out.old at (samples_at (sequence_of s) (lends y.now cb.now cr.now strides) my mx) out.new result }
+    ensures { Laid out.old at (samples_at (sequence_of s) (lends_in planes.entry) my mx) out.new result }
 {
-    let a = block(y, strides.y, s, 0, my, mx, out, at);
-    let b = block(cb, strides.cb, s, 1, my, mx, out, a);
-    block(cr, strides.cr, s, 2, my, mx, out, b)
+    let a = block(planes.y, planes.strides.y, s, 0, my, mx, out, at);
+    let b = block(planes.cb, planes.strides.cb, s, 1, my, mx, out, a);
+    block(planes.cr, planes.strides.cr, s, 2, my, mx, out, b)
 }
 
 // Lays what stands before the samples of macroblock i: before those of the first the slice header and its mb_type, before the others mb_type alone.
@@ -151,32 +141,26 @@ fn head(out: &mut [u8], at: usize, i: usize) -> usize
 
 // Lays the macroblock in row my and column mx, and answers the place behind it.
 pub fn macroblock(
-    y: &[u8],
-    cb: &[u8],
-    cr: &[u8],
-    strides: Strides,
+    planes: Planes,
     s: Session,
     my: usize,
     mx: usize,
     out: &mut [u8],
     at: usize,
 ) -> usize
-    requires ready { Ready (sequence_of s) (lends y.now cb.now cr.now strides) }
+    requires ready { Ready (sequence_of s) (lends_in planes) }
     requires my_bound { (my < frame_height_in_mbs (sequence_of s)) × (mx < pic_width_in_mbs (sequence_of s)) }
-    requires mx_in_bounds { at + length (macroblock_in (sequence_of s) (lends y.now cb.now cr.now strides) (my * pic_width_in_mbs (sequence_of s) + mx)) ≤ length out.old }
-    ensures { Laid out.old at (macroblock_in (sequence_of s) (lends y.now cb.now cr.now strides) (my * pic_width_in_mbs (sequence_of s) + mx)) out.new result }
+    requires mx_in_bounds { at + length (macroblock_in (sequence_of s) (lends_in planes) (my * pic_width_in_mbs (sequence_of s) + mx)) ≤ length out.old }
+    ensures { Laid out.old at (macroblock_in (sequence_of s) (lends_in planes.entry) (my * pic_width_in_mbs (sequence_of s) + mx)) out.new result }
 {
     let mw = ycbcr_image::mbs_width(s);
     let a = head(out, at, my * mw + mx);
-    samples(y, cb, cr, strides, s, my, mx, out, a)
+    samples(planes, s, my, mx, out, a)
 }
 
 // Lays n macroblocks of row my, the first in column mx.
 pub fn macroblocks(
-    y: &[u8],
-    cb: &[u8],
-    cr: &[u8],
-    strides: Strides,
+    planes: Planes,
     s: Session,
     my: usize,
     mx: usize,
@@ -184,15 +168,15 @@ pub fn macroblocks(
     out: &mut [u8],
     at: usize,
 ) -> usize
-    requires ready { Ready (sequence_of s) (lends y.now cb.now cr.now strides) }
+    requires ready { Ready (sequence_of s) (lends_in planes) }
     requires my_bound { (my < frame_height_in_mbs (sequence_of s)) × (mx + n ≤ pic_width_in_mbs (sequence_of s)) }
-    requires n_in_bounds { at + length (cat (macroblock_in (sequence_of s) (lends y.now cb.now cr.now strides)) (my * pic_width_in_mbs (sequence_of s) + mx) n) ≤ length out.old }
-    ensures { Laid out.old at (cat (macroblock_in (sequence_of s) (lends y.now cb.now cr.now strides)) (my * pic_width_in_mbs (sequence_of s) + mx) n) out.new result }
+    requires n_in_bounds { at + length (cat (macroblock_in (sequence_of s) (lends_in planes)) (my * pic_width_in_mbs (sequence_of s) + mx) n) ≤ length out.old }
+    ensures { Laid out.old at (cat (macroblock_in (sequence_of s) (lends_in planes.entry)) (my * pic_width_in_mbs (sequence_of s) + mx) n) out.new result }
 {
     let mut a = at;
     let mut k = 0;
     while k < n {
-        a = macroblock(y, cb, cr, strides, s, my, mx + k, out, a);
+        a = macroblock(planes, s, my, mx + k, out, a);
         k += 1;
     }
     a

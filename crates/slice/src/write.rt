@@ -6,9 +6,9 @@ ghost use Rattle.nal_unit.specs.PutCode.{Put};
 ghost use Rattle.ycbcr_image.specs.Sizes.{sequence_of, pic_width_in_mbs, frame_height_in_mbs};
 ghost use Rattle.slice.specs.Cat.{cat};
 ghost use Rattle.slice.specs.Picture.{picture_of};
-ghost use Rattle.slice.specs.Macroblocks.{lends, Ready, macroblock_in, row_in, at_once};
+ghost use Rattle.slice.specs.Macroblocks.{lends_in, Ready, macroblock_in, row_in, at_once};
 
-use crate::{Strides, macroblock};
+use crate::{Planes, macroblock};
 use nal_unit::fast;
 use ycbcr_image::Session;
 
@@ -22,10 +22,7 @@ fn at_once(s: Session) -> usize
 // Writes n macroblocks of row my, the first in column mx: all are laid before they are tested and escaped where they stand, since a test of bytes that were
 // only just laid has to wait for them.
 fn put_some(
-    y: &[u8],
-    cb: &[u8],
-    cr: &[u8],
-    strides: Strides,
+    planes: Planes,
     s: Session,
     my: usize,
     mx: usize,
@@ -33,85 +30,60 @@ fn put_some(
     out: &mut [u8],
     at: usize,
 ) -> usize
-    requires ready { Ready (sequence_of s) (lends y.now cb.now cr.now strides) }
+    requires ready { Ready (sequence_of s) (lends_in planes) }
     requires my_bound { (my < frame_height_in_mbs (sequence_of s)) × (mx + n ≤ pic_width_in_mbs (sequence_of s)) }
     requires n_bound { n ≤ at_once (sequence_of s).form }
     requires le_at { 2 ≤ at }
-    requires n_in_bounds { at + length (esc_from (counted out.old at) (cat (macroblock_in (sequence_of s) (lends y.now cb.now cr.now strides)) (my * pic_width_in_mbs (sequence_of s) + mx) n)) ≤ length out.old }
-    ensures { Put out.old at (cat (macroblock_in (sequence_of s) (lends y.now cb.now cr.now strides)) (my * pic_width_in_mbs (sequence_of s) + mx) n) out.new result }
+    requires n_in_bounds { at + length (esc_from (counted out.old at) (cat (macroblock_in (sequence_of s) (lends_in planes)) (my * pic_width_in_mbs (sequence_of s) + mx) n)) ≤ length out.old }
+    ensures { Put out.old at (cat (macroblock_in (sequence_of s) (lends_in planes.entry)) (my * pic_width_in_mbs (sequence_of s) + mx) n) out.new result }
 {
-    let end = macroblock::macroblocks(y, cb, cr, strides, s, my, mx, n, out, at);
+    let end = macroblock::macroblocks(planes, s, my, mx, n, out, at);
     fast::mend(out, at, end - at)
 }
 
 // Writes the macroblocks of row my, some at a time.
-fn put_row(
-    y: &[u8],
-    cb: &[u8],
-    cr: &[u8],
-    strides: Strides,
-    s: Session,
-    my: usize,
-    out: &mut [u8],
-    at: usize,
-) -> usize
-    requires ready { Ready (sequence_of s) (lends y.now cb.now cr.now strides) }
+fn put_row(planes: Planes, s: Session, my: usize, out: &mut [u8], at: usize) -> usize
+    requires ready { Ready (sequence_of s) (lends_in planes) }
     requires my_bound { my < frame_height_in_mbs (sequence_of s) }
     requires le_at { 2 ≤ at }
-    requires my_in_bounds { at + length (esc_from (counted out.old at) (row_in (sequence_of s) (lends y.now cb.now cr.now strides) my)) ≤ length out.old }
-    ensures { Put out.old at (row_in (sequence_of s) (lends y.now cb.now cr.now strides) my) out.new result }
+    requires my_in_bounds { at + length (esc_from (counted out.old at) (row_in (sequence_of s) (lends_in planes) my)) ≤ length out.old }
+    ensures { Put out.old at (row_in (sequence_of s) (lends_in planes.entry) my) out.new result }
 {
     let mw = ycbcr_image::mbs_width(s);
     let n = at_once(s);
     let mut a = at;
     let mut mx = 0;
     while mw - mx >= n {
-        a = put_some(y, cb, cr, strides, s, my, mx, n, out, a);
+        a = put_some(planes, s, my, mx, n, out, a);
         mx += n;
     }
-    put_some(y, cb, cr, strides, s, my, mx, mw - mx, out, a)
+    put_some(planes, s, my, mx, mw - mx, out, a)
 }
 
 // Writes all macroblocks of a picture.
-fn put_rows(
-    y: &[u8],
-    cb: &[u8],
-    cr: &[u8],
-    strides: Strides,
-    s: Session,
-    out: &mut [u8],
-    at: usize,
-) -> usize
-    requires ready { Ready (sequence_of s) (lends y.now cb.now cr.now strides) }
+fn put_rows(planes: Planes, s: Session, out: &mut [u8], at: usize) -> usize
+    requires ready { Ready (sequence_of s) (lends_in planes) }
     requires le_at { 2 ≤ at }
-    requires s_in_bounds { at + length (esc_from (counted out.old at) (cat (row_in (sequence_of s) (lends y.now cb.now cr.now strides)) 0 (frame_height_in_mbs (sequence_of s)))) ≤ length out.old }
-    ensures { Put out.old at (cat (row_in (sequence_of s) (lends y.now cb.now cr.now strides)) 0 (frame_height_in_mbs (sequence_of s))) out.new result }
+    requires s_in_bounds { at + length (esc_from (counted out.old at) (cat (row_in (sequence_of s) (lends_in planes)) 0 (frame_height_in_mbs (sequence_of s)))) ≤ length out.old }
+    ensures { Put out.old at (cat (row_in (sequence_of s) (lends_in planes.entry)) 0 (frame_height_in_mbs (sequence_of s))) out.new result }
 {
     let mh = ycbcr_image::mbs_height(s);
     let mut a = at;
     let mut my = 0;
     while my < mh {
-        a = put_row(y, cb, cr, strides, s, my, out, a);
+        a = put_row(planes, s, my, out, a);
         my += 1;
     }
     a
 }
 
 // Writes a picture's escaped payload at the place `at` of the output, behind the header byte of its unit, and answers the place behind it.
-pub fn put_picture(
-    y: &[u8],
-    cb: &[u8],
-    cr: &[u8],
-    strides: Strides,
-    s: Session,
-    out: &mut [u8],
-    at: usize,
-) -> usize
-    requires ready { Ready (sequence_of s) (lends y.now cb.now cr.now strides) }
+pub fn put_picture(planes: Planes, s: Session, out: &mut [u8], at: usize) -> usize
+    requires ready { Ready (sequence_of s) (lends_in planes) }
     requires le_at { 2 ≤ at }
-    requires strides_in_bounds { at + length (esc_from (counted out.old at) (picture_of (sequence_of s) (lends y.now cb.now cr.now strides))) ≤ length out.old }
-    ensures { Put out.old at (picture_of (sequence_of s) (lends y.now cb.now cr.now strides)) out.new result }
+    requires strides_in_bounds { at + length (esc_from (counted out.old at) (picture_of (sequence_of s) (lends_in planes))) ≤ length out.old }
+    ensures { Put out.old at (picture_of (sequence_of s) (lends_in planes.entry)) out.new result }
 {
-    let a = put_rows(y, cb, cr, strides, s, out, at);
+    let a = put_rows(planes, s, out, at);
     fast::put_slice(b"\x80", 0, 1, out, a)
 }

@@ -2,7 +2,7 @@
 use Rattle.std.proofs.Common.{arith}
 use Rattle.nal_unit.specs.CountCode.{counts-fit}
 use Rattle.ycbcr_image.specs.Sizes.{sequence_of}
-use Rattle.slice.specs.Macroblocks.{lends, rows_most, picture_counted}
+use Rattle.slice.specs.Macroblocks.{lends_in, rows_most, picture_counted}
 use Rattle.slice.proofs.count.escaped_len.Goals as goal
 
 pub overflow_add-result : goal.overflow_add-result
@@ -11,4 +11,4 @@ overflow_add-result c = omega (arith, counts-fit (omega arith) c.count_rows-r.en
 pub returns : goal.returns
 returns c =
     let s = c.args in
-    picture_counted (sequence_of s.s) (lends s.y.now s.cb.now s.cr.now s.strides) c.count_rows-r.ensures
+    picture_counted (sequence_of s.s) (lends_in s.planes) c.count_rows-r.ensures
