@@ -7,7 +7,7 @@
 --     ue-cut, se-cut                a buffer that ends inside a code: no code is read
 -- Of these proofs/Laws.antt has `ue-written-read` and `se-written-read`, since an edit of must-fail/ changes what they rest on.
 -- Assumes nothing.
-use Rattle.std.specs.Prelude.{◌≡◌, refl, List, [], ◌++◌, Bool, true, false, ℕ, ◌+◌, ◌-◌, ◌*◌, ◌^◌, ◌≤◌, ◌<◌, ℤ, nat_abs, length, take, drop}
+use Rattle.std.specs.Prelude.{◌≡◌, refl, Option, Some, None, List, [], ◌++◌, Bool, true, false, ℕ, ◌+◌, ◌-◌, ◌*◌, ◌^◌, ◌≤◌, ◌<◌, ℤ, nat_abs, length, take, drop}
 use Rattle.std.proofs.Common.{sym, ap, ◌∙◌, arith, add-zero, length-append, length-take}
 use Rattle.lists.specs.Every.{Below, below_splice}
 use Rattle.lists.specs.Fill.{splice, splice-length}
@@ -17,10 +17,7 @@ use Rattle.bits.specs.Pack.{packed, bits-packed_whole}
 use Rattle.golomb.specs.Code.{ue, ue-long}
 use Rattle.golomb.specs.Read.{whole, code_num, code_bits, read-ue, ue-read, ue-prefix}
 use Rattle.golomb.specs.Signed.{mapped, unmapped, unmap_map, map_unmap, map_most, unmap_most, se}
-use Rattle.golomb.specs.Answers.{read_ue, read_se, signed, ue_none, ue_some, se_is}
-use Rattle.golomb.specs.declared.UeRead.{UeRead}
-use Rattle.golomb.specs.declared.UeRead.TheVariants as Ue
-use Rattle.golomb.specs.declared.SeRead.TheVariants as Se
+use Rattle.golomb.specs.Answers.{read_ue, read_se, same_number, same_place, signed, ue_none, ue_some, se_is}
 
 -- ---- what is written
 
@@ -43,15 +40,15 @@ stands s place code b h =
 
 -- ---- what is read
 
-pub ue-stands : (s : List ℕ) (place x : ℕ) (t : List ℕ) → x ≤ 2 ^ 32 - 2 → bits_from s place ≡ ue x ++ t → read_ue s place ≡ Ue.Number x (place + length (ue x))
+pub ue-stands : (s : List ℕ) (place x : ℕ) (t : List ℕ) → x ≤ 2 ^ 32 - 2 → bits_from s place ≡ ue x ++ t → read_ue s place ≡ Some (x, place + length (ue x))
 ue-stands s place x t h e =
     let r = read-ue x t h in
     ue_some s place (rw e r.is_whole) ∙ rw (e, r.number, r.bits) refl
 
-pub se-stands : (s : List ℕ) (place : ℕ) (x : ℤ) (t : List ℕ) → nat_abs x ≤ 2 ^ 31 - 1 → bits_from s place ≡ se x ++ t → read_se s place ≡ Se.Number x (place + length (se x))
+pub se-stands : (s : List ℕ) (place : ℕ) (x : ℤ) (t : List ℕ) → nat_abs x ≤ 2 ^ 31 - 1 → bits_from s place ≡ se x ++ t → read_se s place ≡ Some (x, place + length (se x))
 unfolding se
 se-stands s place x t h e =
-    se_is s place ∙ ap signed (ue-stands s place (mapped x) t (map_most x h) e) ∙ ap (λ (z : ℤ). Se.Number z (place + length (ue (mapped x)))) (unmap_map x)
+    se_is s place ∙ ap signed (ue-stands s place (mapped x) t (map_most x h) e) ∙ ap (λ (z : ℤ). Some (z, place + length (ue (mapped x)))) (unmap_map x)
 
 -- ---- reading what was written
 
@@ -69,14 +66,14 @@ pub record Stands (code s : List ℕ) (place p : ℕ) : Type 0 where
   pub inside : p ≤ bit_count s
   pub bits : part (bits_of s) place (length code) ≡ code
 
-pub ue_only : (s : List ℕ) (place x p : ℕ) → read_ue s place ≡ Ue.Number x p → (x ≤ 2 ^ 32 - 2) × Stands (ue x) s place p
+pub ue_only : (s : List ℕ) (place x p : ℕ) → read_ue s place ≡ Some (x, p) → (x ≤ 2 ^ 32 - 2) × Stands (ue x) s place p
 ue_only s place x p e = go (whole (bits_from s place)) refl
   where
     go : (b : Bool) → whole (bits_from s place) ≡ b → (x ≤ 2 ^ 32 - 2) × Stands (ue x) s place p
     go true w =
         let r = ue-read (bits_from s place) (from_below s place) w in
-        let n : code_num (bits_from s place) ≡ x = cc (ue_some s place w) in
-        let q : place + code_bits (bits_from s place) ≡ p = cc (ue_some s place w) in
+        let n : code_num (bits_from s place) ≡ x = same_number (sym (ue_some s place w) ∙ e) in
+        let q : place + code_bits (bits_from s place) ≡ p = same_place (sym (ue_some s place w) ∙ e) in
         let k : code_bits (bits_from s place) ≡ length (ue x) = r.bits ∙ ap (λ (i : ℕ). length (ue i)) n in
         let c : bits_from s place ≡ ue x ++ drop (code_bits (bits_from s place)) (bits_from s place) = rw n at r.code in
         let m : place + length (ue x) ≤ bit_count s =
@@ -90,26 +87,26 @@ ue_only s place x p e = go (whole (bits_from s place)) refl
         )
     go false w = let z : ◌≡◌ {A = ℕ} 0 1 = cc (ue_none s place w) in absurd (omega arith)
 
-pub se_only : (s : List ℕ) (place : ℕ) (x : ℤ) (p : ℕ) → read_se s place ≡ Se.Number x p → (nat_abs x ≤ 2 ^ 31 - 1) × Stands (se x) s place p
+pub se_only : (s : List ℕ) (place : ℕ) (x : ℤ) (p : ℕ) → read_se s place ≡ Some (x, p) → (nat_abs x ≤ 2 ^ 31 - 1) × Stands (se x) s place p
 unfolding se
 se_only s place x p e = go (read_ue s place) refl
   where
-    go : (r : UeRead) → read_ue s place ≡ r → (nat_abs x ≤ 2 ^ 31 - 1) × Stands (ue (mapped x)) s place p
-    go (Ue.Number k q) w =
-        let t : read_se s place ≡ Se.Number (unmapped k) q = se_is s place ∙ ap signed w in
-        let n : unmapped k ≡ x = cc in
-        let m : q ≡ p = cc in
+    go : (r : Option (ℕ × ℕ)) → read_ue s place ≡ r → (nat_abs x ≤ 2 ^ 31 - 1) × Stands (ue (mapped x)) s place p
+    go (Some (k, q)) w =
+        let t : read_se s place ≡ Some (unmapped k, q) = se_is s place ∙ ap signed w in
+        let n : unmapped k ≡ x = same_number (sym t ∙ e) in
+        let m : q ≡ p = same_place (sym t ∙ e) in
         let u = ue_only s place k q w in
         let g : mapped x ≡ k = ap mapped (sym n) ∙ map_unmap k in
         (rw n at (unmap_most k u.0), rw (g, ← m) u.1)
-    go Ue.NoCode w =
-        let t : read_se s place ≡ Se.NoCode = se_is s place ∙ ap signed w in
+    go None w =
+        let t : read_se s place ≡ None = se_is s place ∙ ap signed w in
         let z : ◌≡◌ {A = ℕ} 0 1 = cc in
         absurd (omega arith)
 
 -- ---- more bytes behind
 
-pub ue-grow : (s : List ℕ) (j place x p : ℕ) → read_ue (take j s) place ≡ Ue.Number x p → read_ue s place ≡ Ue.Number x p
+pub ue-grow : (s : List ℕ) (j place x p : ℕ) → read_ue (take j s) place ≡ Some (x, p) → read_ue s place ≡ Some (x, p)
 unfolding bit_count
 ue-grow s j place x p e =
     let o = ue_only (take j s) place x p e in
@@ -118,13 +115,13 @@ ue-grow s j place x p e =
     let l = length-take j s in
     let few : place + n ≤ bit_count s = omega (arith, t.behind, t.inside) in
     let bits : part (bits_of s) place n ≡ ue x = sym (part-take (bits_of s) (8 * j) place n (omega (arith, t.behind, t.inside))) ∙ (rw (bits-take j s) at t.bits) in
-    ue-stands s place x (bits_from s (place + n)) o.0 (from_split s place n few ∙ ap (λ (v : List ℕ). v ++ bits_from s (place + n)) bits) ∙ ap (λ (q : ℕ). Ue.Number x q) (sym t.behind)
+    ue-stands s place x (bits_from s (place + n)) o.0 (from_split s place n few ∙ ap (λ (v : List ℕ). v ++ bits_from s (place + n)) bits) ∙ ap (λ (q : ℕ). Some (x, q)) (sym t.behind)
 
 -- ---- a strict prefix of a code
 
-pub ue-cut : (s : List ℕ) (place x n : ℕ) → x ≤ 2 ^ 32 - 2 → n < length (ue x) → bits_from s place ≡ take n (ue x) → read_ue s place ≡ Ue.NoCode
+pub ue-cut : (s : List ℕ) (place x n : ℕ) → x ≤ 2 ^ 32 - 2 → n < length (ue x) → bits_from s place ≡ take n (ue x) → read_ue s place ≡ None
 ue-cut s place x n h l e = ue_none s place (rw e (ue-prefix x n h l))
 
-pub se-cut : (s : List ℕ) (place : ℕ) (x : ℤ) (n : ℕ) → nat_abs x ≤ 2 ^ 31 - 1 → n < length (se x) → bits_from s place ≡ take n (se x) → read_se s place ≡ Se.NoCode
+pub se-cut : (s : List ℕ) (place : ℕ) (x : ℤ) (n : ℕ) → nat_abs x ≤ 2 ^ 31 - 1 → n < length (se x) → bits_from s place ≡ take n (se x) → read_se s place ≡ None
 unfolding se
 se-cut s place x n h l e = se_is s place ∙ ap signed (ue-cut s place (mapped x) n (map_most x h) l e)

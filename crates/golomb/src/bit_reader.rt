@@ -1,9 +1,7 @@
-// A bit reader over one lent payload with its place. Each call is thin: it takes the reader apart and calls the function on the
-// slice and the number. The answers hold the place behind what was read; `moved` puts the reader there.
+// A bit reader over one lent payload with its place. Each method is thin: it calls the function on the slice and the number. The
+// answers hold the place behind what was read; `moved` puts the reader there.
 ghost use Rattle.std.specs.Prelude.{◌≡◌};
 ghost use Rattle.golomb.specs.Answers.{read_ue, read_se, read_u};
-
-use crate::{BitsRead, SeRead, UeRead};
 
 #[derive(Clone, Copy)]
 pub struct BitReader<'a> {
@@ -11,47 +9,46 @@ pub struct BitReader<'a> {
     pub place: usize,
 }
 
-// A reader at the payload's first bit.
-pub fn new<'a>(payload: &'a [u8]) -> BitReader<'a>
-    ensures { (result.payload ≡ payload.entry) × (result.place ≡ 0) }
-{
-    BitReader { payload, place: 0 }
-}
-
-// The reader's place.
-pub fn place<'a>(r: BitReader<'a>) -> usize
-    ensures { result ≡ r.entry.place }
-{
-    r.place
-}
-
-// The reader at another place: how bits are skipped.
-pub fn moved<'a>(r: BitReader<'a>, place: usize) -> BitReader<'a>
-    ensures { (result.payload ≡ r.entry.payload) × (result.place ≡ place) }
-{
-    BitReader {
-        payload: r.payload,
-        place,
+impl<'a> BitReader<'a> {
+    // A reader at the payload's first bit.
+    pub fn new(payload: &'a [u8]) -> BitReader<'a>
+        ensures { (result.payload ≡ payload.entry) × (result.place ≡ 0) }
+    {
+        BitReader { payload, place: 0 }
     }
-}
 
-// Reads an unsigned code.
-pub fn ue<'a>(r: BitReader<'a>) -> UeRead
-    ensures { result ≡ read_ue r.entry.payload.now r.entry.place }
-{
-    crate::read_ue(r.payload, r.place)
-}
+    // The reader's place.
+    pub fn place(self) -> usize
+        ensures { result ≡ self.entry.place }
+    {
+        self.place
+    }
 
-// Reads a signed code.
-pub fn se<'a>(r: BitReader<'a>) -> SeRead
-    ensures { result ≡ read_se r.entry.payload.now r.entry.place }
-{
-    crate::read_se(r.payload, r.place)
-}
+    // The reader at another place: how bits are skipped.
+    pub fn moved(self, place: usize) -> BitReader<'a>
+        ensures { (result.payload ≡ self.entry.payload) × (result.place ≡ place) }
+    {
+        BitReader { place, ..self }
+    }
 
-// Reads `n` bits as a number.
-pub fn bits<'a>(r: BitReader<'a>, n: usize) -> BitsRead
-    ensures { result ≡ read_u r.entry.payload.now r.entry.place n }
-{
-    crate::read_u(r.payload, r.place, n)
+    // Reads an unsigned code.
+    pub fn ue(self) -> Option<(u32, usize)>
+        ensures { result ≡ read_ue self.entry.payload.now self.entry.place }
+    {
+        crate::read_ue(self.payload, self.place)
+    }
+
+    // Reads a signed code.
+    pub fn se(self) -> Option<(i32, usize)>
+        ensures { result ≡ read_se self.entry.payload.now self.entry.place }
+    {
+        crate::read_se(self.payload, self.place)
+    }
+
+    // Reads `n` bits as a number.
+    pub fn bits(self, n: usize) -> Option<(u64, usize)>
+        ensures { result ≡ read_u self.entry.payload.now self.entry.place n }
+    {
+        crate::read_u(self.payload, self.place, n)
+    }
 }

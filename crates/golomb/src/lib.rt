@@ -12,33 +12,11 @@ ghost use Rattle.golomb.specs.Answers.{write_of, buffer_of, has_ue, has_se, read
 
 pub mod bit_reader;
 
-// The answer of a call that writes a code: the place behind it, or a refusal that changes nothing.
-#[derive(Clone, Copy)]
-pub enum CodeWritten {
-    Behind(usize),
+// Why no code is written; the buffer and the place stay as they were.
+#[derive(Clone, Copy, Debug, PartialEq, Eq)]
+pub enum WriteError {
     NoCode,
     NoRoom,
-}
-
-// The answer of a call that reads an unsigned code: the number and the place behind the code, or a refusal.
-#[derive(Clone, Copy)]
-pub enum UeRead {
-    Number(u32, usize),
-    NoCode,
-}
-
-// The same of a signed code.
-#[derive(Clone, Copy)]
-pub enum SeRead {
-    Number(i32, usize),
-    NoCode,
-}
-
-// The same of plain bits.
-#[derive(Clone, Copy)]
-pub enum BitsRead {
-    Number(u64, usize),
-    NoCode,
 }
 
 // How many binary digits `x` has, 1 for 0.
@@ -75,24 +53,24 @@ pub fn put_ue(buffer: &mut [u8], place: usize, x: u32) -> usize
 }
 
 // Writes the unsigned code of `x`, a number that has one, or finds no room.
-fn put_code(buffer: &mut [u8], place: usize, x: u32) -> CodeWritten
+fn put_code(buffer: &mut [u8], place: usize, x: u32) -> Result<usize, WriteError>
     requires { x ≤ 2 ^ 32 - 2 }
     ensures answer { result ≡ write_of true (ue x) buffer.old place }
     ensures bytes { buffer.new ≡ buffer_of (write_of true (ue x) buffer.old place) (ue x) buffer.old place }
 {
     if !bits::room(buffer.len(), place, code_len(x)) {
-        return CodeWritten::NoRoom;
+        return Err(WriteError::NoRoom);
     }
-    CodeWritten::Behind(put_ue(buffer, place, x))
+    Ok(put_ue(buffer, place, x))
 }
 
-// Writes the unsigned code of `x` at `place`.
-pub fn write_ue(buffer: &mut [u8], place: usize, x: u32) -> CodeWritten
+// Writes the unsigned code of `x` at `place`, and answers the place behind it.
+pub fn write_ue(buffer: &mut [u8], place: usize, x: u32) -> Result<usize, WriteError>
     ensures answer { result ≡ write_of (has_ue x) (ue x) buffer.old place }
     ensures bytes { buffer.new ≡ buffer_of (write_of (has_ue x) (ue x) buffer.old place) (ue x) buffer.old place }
 {
     if x == 4294967295 {
-        return CodeWritten::NoCode;
+        return Err(WriteError::NoCode);
     }
     put_code(buffer, place, x)
 }
@@ -110,14 +88,14 @@ fn mapped(x: i32) -> u32
     }
 }
 
-// Writes the signed code of `x` at `place`.
-pub fn write_se(buffer: &mut [u8], place: usize, x: i32) -> CodeWritten
+// Writes the signed code of `x` at `place`, and answers the place behind it.
+pub fn write_se(buffer: &mut [u8], place: usize, x: i32) -> Result<usize, WriteError>
     ensures answer { result ≡ write_of (has_se x) (se x) buffer.old place }
     ensures bytes { buffer.new ≡ buffer_of (write_of (has_se x) (se x) buffer.old place) (se x) buffer.old place }
 {
     let least = x == -2147483648;
     if least {
-        return CodeWritten::NoCode;
+        return Err(WriteError::NoCode);
     }
     put_code(buffer, place, mapped(x))
 }
@@ -139,20 +117,20 @@ fn leading_zero_bits(payload: &[u8], place: usize) -> usize
     zeros
 }
 
-// Reads the unsigned code at `place`.
-pub fn read_ue(payload: &[u8], place: usize) -> UeRead
+// The number whose unsigned code stands at `place`, and the place behind the code.
+pub fn read_ue(payload: &[u8], place: usize) -> Option<(u32, usize)>
     ensures { result ≡ read_ue payload.now place }
 {
     let zeros = leading_zero_bits(payload, place);
     if 31 < zeros {
-        return UeRead::NoCode;
+        return None;
     }
     let n = 2 * zeros + 1;
     if !bits::room(payload.len(), place, n) {
-        return UeRead::NoCode;
+        return None;
     }
     let suffix = bits::get_bits(payload, place + (zeros + 1), zeros);
-    UeRead::Number(((1u64 << zeros) - 1 + suffix) as u32, place + n)
+    Some((((1u64 << zeros) - 1 + suffix) as u32, place + n))
 }
 
 // What the unsigned number `k` stands for.
@@ -168,25 +146,23 @@ fn unmapped(k: u32) -> i32
     }
 }
 
-// Reads the signed code at `place`.
-pub fn read_se(payload: &[u8], place: usize) -> SeRead
+// The number whose signed code stands at `place`, and the place behind the code.
+pub fn read_se(payload: &[u8], place: usize) -> Option<(i32, usize)>
     ensures { result ≡ read_se payload.now place }
 {
-    match read_ue(payload, place) {
-        UeRead::Number(k, behind) => SeRead::Number(unmapped(k), behind),
-        UeRead::NoCode => SeRead::NoCode,
-    }
+    let (k, behind) = read_ue(payload, place)?;
+    Some((unmapped(k), behind))
 }
 
-// Reads `n` bits at `place` as a number, the standard's u(n).
-pub fn read_u(payload: &[u8], place: usize, n: usize) -> BitsRead
+// The number that the `n` bits at `place` spell, the standard's u(n), and the place behind them.
+pub fn read_u(payload: &[u8], place: usize, n: usize) -> Option<(u64, usize)>
     ensures { result ≡ read_u payload.now place n }
 {
     if 64 < n {
-        return BitsRead::NoCode;
+        return None;
     }
     if !bits::room(payload.len(), place, n) {
-        return BitsRead::NoCode;
+        return None;
     }
-    BitsRead::Number(bits::get_bits(payload, place, n), place + n)
+    Some((bits::get_bits(payload, place, n), place + n))
 }

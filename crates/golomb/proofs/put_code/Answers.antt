@@ -1,5 +1,5 @@
 -- `golomb::put_code` meets its contract: the code is written where it has room. Assumes nothing.
-use Rattle.std.proofs.Common.{◌≡◌, refl, sym, ap, ◌∙◌, List, ℕ, ◌+◌, ◌≤◌, arith, length}
+use Rattle.std.proofs.Common.{◌≡◌, refl, sym, ap, ◌∙◌, Ok, List, ℕ, ◌+◌, ◌≤◌, arith, length}
 use borrow.Author.Tests.{not-true, not-false}
 use Rattle.lists.specs.Every.{Below}
 use Rattle.lists.specs.Fill.{splice}
@@ -7,7 +7,6 @@ use Rattle.bits.specs.Bits.{bits_of, bit_count, room_true, room_false, BitsPut}
 use Rattle.bits.specs.Pack.{packed, packed-bits}
 use Rattle.golomb.specs.Code.{ue}
 use Rattle.golomb.specs.Answers.{write_short, write_fits}
-use Rattle.golomb.specs.declared.CodeWritten.TheVariants.{Behind}
 use Rattle.golomb.proofs.put_code.Goals as goal
 
 pub returns-then-not-room : goal.returns-then-not-room
@@ -33,4 +32,4 @@ bytes {s} {out} code b w = sym (packed-bits out b) ∙ ap packed w.bits
 
 pub returns : goal.returns
 returns c =
-    let f = write_fits (ue c.args.x) c.args.buffer.now c.args.place (fits2 c) in record { answer = ap Behind c.put_ue.ensures.behind ∙ sym f; bytes = rw f (bytes (ue c.args.x) (record { at = λ i. (c.slice_known-2-1.given i).fits }) c.put_ue.ensures) }
+    let f = write_fits (ue c.args.x) c.args.buffer.now c.args.place (fits2 c) in record { answer = ap Ok c.put_ue.ensures.behind ∙ sym f; bytes = rw f (bytes (ue c.args.x) (record { at = λ i. (c.slice_known-2-1.given i).fits }) c.put_ue.ensures) }

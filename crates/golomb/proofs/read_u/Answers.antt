@@ -1,8 +1,7 @@
 -- `golomb::read_u` meets its contract: the tests are the definition's. Assumes nothing.
-use Rattle.std.proofs.Common.{sym, ap, ◌∙◌, ℕ, ◌+◌, ◌≤◌, arith}
+use Rattle.std.proofs.Common.{sym, ap, Some, ◌∙◌, ℕ, ◌+◌, ◌≤◌, arith}
 use borrow.Author.Tests.{not-true, not-false}
 use Rattle.bits.specs.Bits.{bit_count, room_true, room_false, count-lt}
-use Rattle.golomb.specs.declared.BitsRead.TheVariants.{Number}
 use Rattle.golomb.specs.Answers.{u-long, u_short, u_fits}
 use Rattle.golomb.proofs.read_u.Goals as goal
 
@@ -27,4 +26,4 @@ overflow_add-result c = omega (arith, fits2 c, count-lt c.args.payload.now)
 
 pub returns : goal.returns
 returns c =
-    ap (λ (v : ℕ). Number v (c.args.place + c.args.n)) c.get_bits.ensures ∙ sym (u_fits _ _ _ c.if-n-gt64.false (fits2 c))
+    ap (λ (v : ℕ). Some (v, c.args.place + c.args.n)) c.get_bits.ensures ∙ sym (u_fits _ _ _ c.if-n-gt64.false (fits2 c))
