@@ -5,9 +5,9 @@
 --     unit_of s            the unit whose bytes begin at the front of s, less its trailing zeros
 --     unit_bad             that unit has a fault exactly where the first fault of s and two bytes more are in it
 --     Seeking, Sought      the search for the first fault at a place that it has reached, and what it finds; the inserted bytes on its way are seen too
---     Scanned s from r     the unit at a place of a slice: where the next start code or the end is, where the unit stops, whether it has a fault, from where on it is calm
+--     Scanned s from r     the unit at a place of a slice: where the next start code or the end is, where the unit stops, whether it has a fault (no calm place), from where on it is calm
 -- Assumes nothing.
-use Rattle.std.specs.Prelude.{◌≡◌, refl, List, [], ◌∷◌, ◌++◌, Bool, true, false, cond, ◌&&◌, ◌||◌, ℕ, zero, suc, ◌+◌, ◌-◌, ◌*◌, ◌/◌, ◌≤◌, ◌<◌, leb, ltb, eqb, length, take, drop, get_or}
+use Rattle.std.specs.Prelude.{◌≡◌, refl, List, [], ◌∷◌, ◌++◌, Bool, true, false, cond, ◌&&◌, ◌||◌, ℕ, zero, suc, ◌+◌, ◌-◌, ◌*◌, ◌/◌, ◌≤◌, ◌<◌, leb, ltb, eqb, length, take, drop, get_or, Option, Some, None, is_none, IfSome}
 use Rattle.std.proofs.Common.{sym, ap, ◌∙◌, true≢false, add-zero, add_assoc, mod-eq_of_lt, arith, length-take, length-drop, drop_of_length-le, take-append-drop, length-take-le, take-take, take-add, drop-drop, get_or-take, get_or-drop, lt-ltb, eqb-true, eq-eqb, ne_eqb, le-leb, leb-true, leb-false}
 use Rattle.std.proofs.Math.Bool.{and_assoc, or-true, and-eq-true_iff}
 use Rattle.std.proofs.Math.Dec.{leb-suc-suc}
@@ -414,21 +414,22 @@ unit_bad s = by (fault (unit_of s)) refl
 
 -- The unit at a place of a slice
 
--- what a caller learns of the scan's answer: its values, that the unit is the bytes from `from` to `stop`, and that no inserted byte stands in it from `calm` on
+-- what a caller learns of the scan's answer: its values, that the unit is the bytes from `from` to `stop`, that there is no calm place exactly where it has a fault,
+-- and that no inserted byte stands in it from the calm place on
 pub record Scanned (s : List ℕ) (from : ℕ) (r : UnitScan) : Type 0 where
   pub end : r.end ≡ from + next (drop from s)
   pub stop : r.stop ≡ from + length (unit_of (drop from s))
-  pub bad : r.bad ≡ fault (unit_of (drop from s))
+  pub bad : is_none r.calm ≡ fault (unit_of (drop from s))
   pub unit : unit_of (drop from s) ≡ part s from (r.stop - from)
   pub most : r.stop ≤ r.end
   pub inside : from ≤ length s → r.end ≤ length s
-  pub calm : ins_count s r.calm r.stop ≡ 0
+  pub calm : IfSome r.calm (λ c. ins_count s c r.stop ≡ 0)
 
 -- the unit by its bounds
-scanned : (s : List ℕ) (from e t c : ℕ) (b : Bool) → e ≡ from + next (drop from s) → t ≡ from + length (unit_of (drop from s)) → b ≡ fault (unit_of (drop from s)) → ins_count s c t ≡ 0
-    → Scanned s from (record { end = e; stop = t; bad = b; calm = c })
+scanned : (s : List ℕ) (from e t : ℕ) (m : Option ℕ) → e ≡ from + next (drop from s) → t ≡ from + length (unit_of (drop from s)) → is_none m ≡ fault (unit_of (drop from s))
+    → IfSome m (λ c. ins_count s c t ≡ 0) → Scanned s from (record { end = e; stop = t; calm = m })
 unfolding part
-scanned s from e t c b p q f z =
+scanned s from e t m p q f z =
     let u = drop from s in
     let k : t - from ≡ length (unit_of u) = omega arith in
     record {
@@ -442,11 +443,11 @@ scanned s from e t c b p q f z =
     }
 
 -- behind the end there is none
-pub unit-beyond : (s : List ℕ) (from : ℕ) → length s ≤ from → Scanned s from (record { end = from; stop = from; bad = false; calm = from })
+pub unit-beyond : (s : List ℕ) (from : ℕ) → length s ≤ from → Scanned s from (record { end = from; stop = from; calm = Some from })
 unfolding unit_of next trim fault
 unit-beyond s from h =
     let d : drop from s ≡ [] = drop_of_length-le s h in
-    scanned s from from from from false (rw (d, add-zero from) refl) (rw (d, add-zero from) refl) (rw d refl) (count_end s from from (omega arith))
+    scanned s from from from (Some from) (rw (d, add-zero from) refl) (rw (d, add-zero from) refl) (rw d refl) (count_end s from from (omega arith))
 
 -- the unit as the code finds it: the first fault, the next start code from there on, the trailing zeros before that
 module _ (s : List ℕ) (from e t : ℕ) (r : Found) (g : Sought s from r) (ee : e ≡ r.fault + next (drop r.fault s)) (l : from ≤ length s)
@@ -461,13 +462,13 @@ module _ (s : List ℕ) (from e t : ℕ) (r : Found) (g : Sought s from r) (ee :
   fault_by : fault (unit_of (drop from s)) ≡ leb (first_fault (drop from s) + 3) (length (unit_of (drop from s)))
   fault_by = unit_bad (drop from s)
 
-  pub unit-faulty : r.fault + 3 ≤ t → Scanned s from (record { end = e; stop = t; bad = true; calm = t })
+  pub unit-faulty : r.fault + 3 ≤ t → Scanned s from (record { end = e; stop = t; calm = None })
   unit-faulty h =
       let f : fault (unit_of (drop from s)) ≡ true = fault_by ∙ le-leb (first_fault (drop from s) + 3) (length (unit_of (drop from s))) (omega (arith, g.fault, unit-stop)) in
-      scanned s from e t t true unit_end unit-stop (sym f) (count_end s t t (omega arith))
+      scanned s from e t None unit_end unit-stop (sym f) tt
 
-  pub unit_whole : t < r.fault + 3 → Scanned s from (record { end = e; stop = t; bad = false; calm = r.calm })
+  pub unit_whole : t < r.fault + 3 → Scanned s from (record { end = e; stop = t; calm = Some r.calm })
   unit_whole h =
       let f : fault (unit_of (drop from s)) ≡ false = fault_by ∙ lt-leb (first_fault (drop from s) + 3) (length (unit_of (drop from s))) (omega (arith, g.fault, unit-stop)) in
       let z = g.calm t (omega arith) (omega (arith, unit-stop, unit-le (drop from s), next_le (drop from s), length-drop from s)) in
-      scanned s from e t r.calm false unit_end unit-stop (sym f) z
+      scanned s from e t (Some r.calm) unit_end unit-stop (sym f) z

@@ -15,13 +15,6 @@ ghost use Rattle.std.specs.Prelude.{◌≡◌, leb, length};
 ghost use Rattle.nal_unit.specs.Escape.{esc};
 ghost use Rattle.nal_unit.specs.Answers.{escaped_of, escaped_out};
 
-// The answer of escaping: the length written, or that the output has no room (21).
-#[derive(Clone, Copy)]
-pub enum Escaped {
-    Written(usize),
-    NoRoom,
-}
-
 // The length of a payload's escape.
 pub fn escaped_len(payload: &[u8]) -> usize
     ensures { result ≡ length (esc payload.now) }
@@ -44,14 +37,13 @@ fn has_room(payload: &[u8], room: usize) -> bool
     escaped_len(payload) <= room
 }
 
-// Escapes a payload (RBSP) into the output (EBSP), from its first byte on.
-pub fn rbsp_to_ebsp(rbsp: &[u8], nal: &mut [u8]) -> Escaped
+// Escapes a payload (RBSP) into the output (EBSP), from its first byte on, and answers the length written; None where there is no room, and nothing changed.
+pub fn rbsp_to_ebsp(rbsp: &[u8], nal: &mut [u8]) -> Option<usize>
     ensures value { result ≡ escaped_of rbsp.now nal.old }
     ensures nal_after { nal.new ≡ escaped_out rbsp.now nal.old }
 {
     if !has_room(rbsp, nal.len()) {
-        return Escaped::NoRoom;
+        return None;
     }
-    let at = fast::put_slice(rbsp, 0, rbsp.len(), nal, 0);
-    Escaped::Written(at)
+    Some(fast::put_slice(rbsp, 0, rbsp.len(), nal, 0))
 }

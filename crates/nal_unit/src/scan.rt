@@ -196,14 +196,13 @@ pub fn first_fault(s: &[u8], from: usize) -> usize
     found.fault
 }
 
-// Where a unit ends: the next start code or the end, the place behind the unit's last byte, whether the unit has a fault, and a place from which on no
-// inserted byte stands in it.
+// Where a unit ends: the next start code or the end, the place behind the unit's last byte, and a place from which on no inserted byte stands in it; None
+// where the unit has a fault, since what is behind the fault was not looked at.
 #[derive(Clone, Copy)]
 pub struct UnitScan {
     pub end: usize,
     pub stop: usize,
-    pub bad: bool,
-    pub calm: usize,
+    pub calm: Option<usize>,
 }
 
 // The place behind the last byte that is not zero of those from `from` to `end`, or `from` where all are.
@@ -222,8 +221,7 @@ fn trim_end(s: &[u8], from: usize, end: usize) -> usize
     stop
 }
 
-// The unit whose bytes begin at `from`, behind its start code. Trailing zeros are no part of it, also for the fault. In a unit with a fault the calm place is
-// its stop: what is behind the fault was not looked at.
+// The unit whose bytes begin at `from`, behind its start code. Trailing zeros are no part of it, also for the fault.
 pub fn unit_scan(s: &[u8], from: usize) -> UnitScan
     ensures { Scanned s.now from result }
 {
@@ -231,29 +229,17 @@ pub fn unit_scan(s: &[u8], from: usize) -> UnitScan
         return UnitScan {
             end: from,
             stop: from,
-            bad: false,
-            calm: from,
+            calm: Some(from),
         };
     }
     let found = seek(s, from);
-    let fault = found.fault;
-    let calm = found.calm;
-    let end = next_code(s, fault);
+    let end = next_code(s, found.fault);
     let stop = trim_end(s, from, end);
-    let bad = fault + 3 <= stop;
-    if bad {
-        return UnitScan {
-            end,
-            stop,
-            bad: true,
-            calm: stop,
-        };
-    }
+    let bad = found.fault + 3 <= stop;
     UnitScan {
         end,
         stop,
-        bad: false,
-        calm,
+        calm: if bad { None } else { Some(found.calm) },
     }
 }
 

@@ -8,10 +8,9 @@ ghost use Rattle.nal_unit.specs.UnescapeCode.{Unescapes};
 
 use crate::{rows, scan, taking};
 
-// The answer of unescaping: the length written, or a refusal that changes nothing.
-#[derive(Clone, Copy)]
-pub enum Unescaped {
-    Written(usize),
+// Why nothing is unescaped, and nothing changed: the bytes have a fault, or their payload has no room.
+#[derive(Clone, Copy, Debug, PartialEq, Eq)]
+pub enum UnescapeError {
     Fault,
     NoRoom,
 }
@@ -110,15 +109,15 @@ fn put_payload(s: &[u8], out: &mut [u8]) -> usize
 }
 
 // Writes the payload of the escaped bytes `ebsp` from the first byte of `out` on and answers its length; bytes behind it stay.
-pub fn unescape(ebsp: &[u8], out: &mut [u8]) -> Unescaped
+pub fn unescape(ebsp: &[u8], out: &mut [u8]) -> Result<usize, UnescapeError>
     ensures answer { result ≡ unescape_of ebsp.now out.old }
     ensures bytes { out.new ≡ unescaped_out (unescape_of ebsp.now out.old) ebsp.now out.old }
 {
     if scan::first_fault(ebsp, 0) < ebsp.len() {
-        return Unescaped::Fault;
+        return Err(UnescapeError::Fault);
     }
     if !has_room(ebsp, out.len()) {
-        return Unescaped::NoRoom;
+        return Err(UnescapeError::NoRoom);
     }
-    Unescaped::Written(put_payload(ebsp, out))
+    Ok(put_payload(ebsp, out))
 }

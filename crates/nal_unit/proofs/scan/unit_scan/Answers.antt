@@ -24,7 +24,7 @@ returns-then-bad c =
     unit-faulty c.args.s.now c.args.from c.next_code-end.result c.trim_end-stop.result c.seek-found.result
     c.seek-found.ensures c.next_code-end.ensures (omega arith) c.trim_end-stop.ensures c.if-bad.true
 
-pub returns : goal.returns
-returns c =
+pub returns-else-bad : goal.returns-else-bad
+returns-else-bad c =
     unit_whole c.args.s.now c.args.from c.next_code-end.result c.trim_end-stop.result c.seek-found.result
     c.seek-found.ensures c.next_code-end.ensures (omega arith) c.trim_end-stop.ensures c.if-bad.false

@@ -1,10 +1,9 @@
 -- `nal_unit::unescape::unescape` meets its contract: a fault is there where the first one is before the end. Assumes nothing.
-use Rattle.std.proofs.Common.{◌≡◌, refl, sym, ap, ◌∙◌, false, ◌≤◌, arith, length, lt-ltb, le-ltb, leb-true, leb-false}
+use Rattle.std.proofs.Common.{◌≡◌, refl, sym, ap, ◌∙◌, false, ◌≤◌, arith, length, Ok, lt-ltb, le-ltb, leb-true, leb-false}
 use borrow.Author.Tests.{not-true, not-false}
 use Rattle.nal_unit.specs.Answers.{unescape-fault, unescape_short, unescape_fits}
 use Rattle.nal_unit.specs.ScanCode.{first_fault, fault-place}
 use Rattle.nal_unit.specs.Unescape.{un, fault}
-use Rattle.nal_unit.specs.declared.unescape.Unescaped.TheVariants.{Written}
 use Rattle.nal_unit.proofs.unescape.unescape.Goals as goal
 
 pub returns-then-first_fault-ebsp : goal.returns-then-first_fault-ebsp
@@ -46,4 +45,4 @@ pub returns : goal.returns
 returns c =
     let s = c.args.ebsp.now in
     let e = unescape_fits s c.args.out.now (none2 c) (room2 c) in
-    let w = c.put_payload.ensures in record { answer = ap Written w.0 ∙ sym e; bytes = rw e w.1 }
+    let w = c.put_payload.ensures in record { answer = ap Ok w.0 ∙ sym e; bytes = rw e w.1 }
