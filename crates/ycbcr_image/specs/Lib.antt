@@ -5,3 +5,4 @@ pub mod Accepted
 pub mod Passed
 pub mod Shape
 pub mod Cases
+pub mod Numbers

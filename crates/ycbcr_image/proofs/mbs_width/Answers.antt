@@ -1,8 +1,0 @@
--- `ycbcr_image::mbs_width` meets its contract. Assumes nothing.
-use Rattle.std.proofs.Common.{arith}
-use Rattle.ycbcr_image.specs.Sizes.{div_ceil, next_multiple, pic_width_in_mbs}
-use Rattle.ycbcr_image.proofs.mbs_width.Goals as goal
-
-pub returns : goal.returns
-unfolding pic_width_in_mbs next_multiple div_ceil
-returns c = omega (arith, c.div_ceil.ensures)
