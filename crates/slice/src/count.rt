@@ -34,14 +34,12 @@ fn count_row(planes: Planes, s: Session, my: usize, z: usize) -> Count
     let mw = ycbcr_image::mbs_width(s);
     let mut n: usize = 0;
     let mut zeros = z;
-    let mut mx = 0;
-    while mx < mw {
+    for mx in 0..mw {
         let r = count_macroblock(planes, s, my, mx, zeros);
         n += r.n;
         zeros = r.z;
-        mx += 1;
     }
-    Count { n: n, z: zeros }
+    Count { n, z: zeros }
 }
 
 // All macroblocks of a picture, from its first byte on.
@@ -52,14 +50,12 @@ fn count_rows(planes: Planes, s: Session) -> Count
     let mh = ycbcr_image::mbs_height(s);
     let mut n: usize = 0;
     let mut zeros: usize = 0;
-    let mut my = 0;
-    while my < mh {
+    for my in 0..mh {
         let r = count_row(planes, s, my, zeros);
         n += r.n;
         zeros = r.z;
-        my += 1;
     }
-    Count { n: n, z: zeros }
+    Count { n, z: zeros }
 }
 
 // The length of a picture's escaped payload.

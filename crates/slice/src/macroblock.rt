@@ -174,10 +174,8 @@ pub fn macroblocks(
     ensures { Laid out.old at (cat (macroblock_in (sequence_of s) (lends_in planes.entry)) (my * pic_width_in_mbs (sequence_of s) + mx) n) out.new result }
 {
     let mut a = at;
-    let mut k = 0;
-    while k < n {
+    for k in 0..n {
         a = macroblock(planes, s, my, mx + k, out, a);
-        k += 1;
     }
     a
 }

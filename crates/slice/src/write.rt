@@ -69,10 +69,8 @@ fn put_rows(planes: Planes, s: Session, out: &mut [u8], at: usize) -> usize
 {
     let mh = ycbcr_image::mbs_height(s);
     let mut a = at;
-    let mut my = 0;
-    while my < mh {
+    for my in 0..mh {
         a = put_row(planes, s, my, out, a);
-        my += 1;
     }
     a
 }

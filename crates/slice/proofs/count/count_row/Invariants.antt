@@ -6,6 +6,3 @@ use Rattle.slice.proofs.count.count_row.Given as goal
 
 abbrev pub invariant-loop-mx : goal.invariant-loop-mx
 invariant-loop-mx l = Tally l.z (macroblock_in (sequence_of l.s) (lends_in l.planes)) (l.my * pic_width_in_mbs (sequence_of l.s)) (pic_width_in_mbs (sequence_of l.s)) l.n l.zeros l.mx
-
-abbrev pub decreases-loop-mx : goal.decreases-loop-mx
-decreases-loop-mx l = l.mw - l.mx

@@ -6,6 +6,3 @@ use Rattle.slice.proofs.count.count_rows.Given as goal
 
 abbrev pub invariant-loop-my : goal.invariant-loop-my
 invariant-loop-my l = Tally 0 (row_in (sequence_of l.s) (lends_in l.planes)) 0 (frame_height_in_mbs (sequence_of l.s)) l.n l.zeros l.my
-
-abbrev pub decreases-loop-my : goal.decreases-loop-my
-decreases-loop-my l = l.mh - l.my

@@ -6,6 +6,3 @@ use Rattle.slice.proofs.macroblock.macroblocks.Given as goal
 
 abbrev pub invariant-loop-k : goal.invariant-loop-k
 invariant-loop-k l = Laying l.initial.out l.at (macroblock_in (sequence_of l.s) (lends_in l.planes)) (l.my * pic_width_in_mbs (sequence_of l.s) + l.mx) l.n l.out l.a l.k
-
-abbrev pub decreases-loop-k : goal.decreases-loop-k
-decreases-loop-k l = l.n - l.k

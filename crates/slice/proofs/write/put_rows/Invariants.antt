@@ -6,6 +6,3 @@ use Rattle.slice.proofs.write.put_rows.Given as goal
 
 abbrev pub invariant-loop-my : goal.invariant-loop-my
 invariant-loop-my l = Pieces l.initial.out l.at (row_in (sequence_of l.s) (lends_in l.planes)) 0 (frame_height_in_mbs (sequence_of l.s)) l.out l.a l.my
-
-abbrev pub decreases-loop-my : goal.decreases-loop-my
-decreases-loop-my l = l.mh - l.my
