@@ -52,12 +52,10 @@ fn put_row(planes: Planes, s: Session, my: usize, out: &mut [u8], at: usize) -> 
     let mw = ycbcr_image::mbs_width(s);
     let n = at_once(s);
     let mut a = at;
-    let mut mx = 0;
-    while mw - mx >= n {
-        a = put_some(planes, s, my, mx, n, out, a);
-        mx += n;
+    for mx in (0..mw).step_by(n) {
+        a = put_some(planes, s, my, mx, n.min(mw - mx), out, a);
     }
-    put_some(planes, s, my, mx, mw - mx, out, a)
+    a
 }
 
 // Writes all macroblocks of a picture.

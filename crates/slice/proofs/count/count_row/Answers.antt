@@ -8,9 +8,6 @@ pub loop-mx-init : goal.loop-mx-init
 loop-mx-init c =
     tally_start c.args.z _ _ _ c.requires.z_bound (omega (arith, row_few c.requires.ready c.args.my c.requires.my_bound))
 
-pub count_macroblock-r-requires : goal.count_macroblock-r-requires
-count_macroblock-r-requires c = record { ready = c.requires.ready; my_bound = (c.requires.my_bound, omega (arith, c.loop-mx-test.true, c.mbs_width-mw.ensures)); z_bound = c.loop-mx.invariant.counting.low }
-
 pub overflow_add-n : goal.overflow_add-n
 overflow_add-n c = omega (arith, tally_most (tally_turn c.loop-mx.invariant (omega (arith, c.loop-mx-test.true, c.mbs_width-mw.ensures)) c.count_macroblock-r.ensures))
 

@@ -1,4 +1,4 @@
-use Rattle.std.proofs.Common.{◌-◌, ◌*◌}
+use Rattle.std.proofs.Common.{◌*◌}
 use Rattle.ycbcr_image.specs.Sizes.{sequence_of, pic_width_in_mbs}
 use Rattle.slice.specs.Macroblocks.{lends_in, macroblock_in}
 use Rattle.slice.specs.Pieces.{Tally}

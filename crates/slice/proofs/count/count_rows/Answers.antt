@@ -7,9 +7,6 @@ use Rattle.slice.proofs.count.count_rows.Goals as goal
 pub loop-my-init : goal.loop-my-init
 loop-my-init c = tally_start 0 _ 0 _ (omega arith) (rows_most c.requires)
 
-pub count_row-r-requires : goal.count_row-r-requires
-count_row-r-requires c = record { ready = c.requires; my_bound = omega (arith, c.loop-my-test.true, c.mbs_height-mh.ensures); z_bound = c.loop-my.invariant.counting.low }
-
 pub overflow_add-n : goal.overflow_add-n
 overflow_add-n c = omega (arith, tally_most (tally_front c.loop-my.invariant (omega (arith, c.loop-my-test.true, c.mbs_height-mh.ensures)) c.count_row-r.ensures))
 

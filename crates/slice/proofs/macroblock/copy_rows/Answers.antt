@@ -2,7 +2,7 @@
 use Rattle.std.proofs.Common.{◌≡◌, refl, ◌+◌, zero-add, zero-mul, mul-le-mul_right, arith}
 use Rattle.lists.specs.Part.{part}
 use Rattle.slice.specs.Cat.{cat-length, rows_of, rows_at, rows_even}
-use Rattle.slice.specs.Laid.{laid_one, laying_start, laying_room, laying_turn, laying_end}
+use Rattle.slice.specs.Laid.{laid_one, laying_start, laying_room, laying_turn}
 use Rattle.slice.proofs.macroblock.copy_rows.Goals as goal
 
 pub loop-k-init : goal.loop-k-init
@@ -15,12 +15,6 @@ copy_row-requires c =
     let g = c.loop-k.invariant in
     let l = c.loop-k-test.true in
     (omega (arith, g.0, c.requires.w_in_bounds, mul-le-mul_right c.args.stride l), omega (arith, laying_room g.1 l, (rows_even c.args.s.now c.args.stride c.args.p c.args.w c.args.h c.requires.w_in_bounds.0).each _ l))
-
-pub overflow_add-q : goal.overflow_add-q
-overflow_add-q c =
-    let g = c.loop-k.invariant in
-    let l = c.loop-k-test.true in
-    omega (arith, g.0, c.requires.w_in_bounds, mul-le-mul_right c.args.stride l)
 
 pub overflow_add-a : goal.overflow_add-a
 overflow_add-a c =
@@ -36,9 +30,3 @@ loop-k-preserved c =
     let k = c.loop-k.k in
     let e : rows_of s.s.now s.stride s.p s.w (0 + k) ≡ part s.s.now c.loop-k.q s.w = rw (zero-add k, rows_at s.s.now s.stride s.p s.w k, g.0) refl in
     (omega (arith, g.0), laying_turn g.1 l (laid_one _ _ s.w _ ((rows_even s.s.now s.stride s.p s.w s.h c.requires.w_in_bounds.0).each k l) refl (rw e c.copy_row.ensures)))
-
-pub shape_of-out : goal.shape_of-out
-shape_of-out c = c.loop-k.invariant.1.long
-
-pub returns : goal.returns
-returns c = laying_end c.loop-k.invariant.1 (omega (arith, c.loop-k-test.false))

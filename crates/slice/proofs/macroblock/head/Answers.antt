@@ -4,15 +4,17 @@ use Rattle.slice.specs.Laid.{laid_all}
 use Rattle.slice.specs.Macroblocks.{first_head, next_head}
 use Rattle.slice.proofs.macroblock.head.Goals as goal
 
-pub copy-requires : goal.copy-requires
-copy-requires c = record { n_in_bounds = omega arith; n_in_bounds_2 = omega (arith, c.requires, ap length (first_head c.args.i c.if-i-eq0.true)) }
+pub copy-requires-clause-n_in_bounds_2 : goal.copy-requires-clause-n_in_bounds_2
+copy-requires-clause-n_in_bounds_2 c =
+    omega (arith, c.requires, ap length (first_head c.args.i c.if-i-eq0.true))
 
 pub returns-then-i-eq0 : goal.returns-then-i-eq0
 returns-then-i-eq0 c =
     laid_all c.args.out.now c.args.at 4 _ (first_head c.args.i c.if-i-eq0.true) refl c.copy.ensures
 
-pub copy-requires-2 : goal.copy-requires-2
-copy-requires-2 c = record { n_in_bounds = omega arith; n_in_bounds_2 = omega (arith, c.requires, ap length (next_head c.args.i c.if-i-eq0.false)) }
+pub copy-requires-2-clause-n_in_bounds_2 : goal.copy-requires-2-clause-n_in_bounds_2
+copy-requires-2-clause-n_in_bounds_2 c =
+    omega (arith, c.requires, ap length (next_head c.args.i c.if-i-eq0.false))
 
 pub returns : goal.returns
 returns c =

@@ -1,31 +1,32 @@
 -- `slice::macroblock::samples` meets its contract: the three blocks in turn. Assumes nothing.
 use Rattle.std.proofs.Common.{arith}
-use Rattle.slice.specs.Macroblocks.{inside, three-sizes, second_room, third_room, samples_laid}
+use Rattle.slice.specs.Macroblocks.{inside, second_room, third_room, samples_laid}
 use Rattle.slice.proofs.macroblock.samples.Goals as goal
 
-pub block-a-requires : goal.block-a-requires
-block-a-requires c =
-    let r = c.requires.ready in
-    let h = c.requires.my_bound.0 in
-    let k = c.requires.my_bound.1 in
-    let my = c.args.my in
-    let mx = c.args.mx in record { inside = inside r 0 my mx (omega arith) h k; p_in_bounds = omega (arith, c.requires.s_in_bounds, three-sizes r my mx h k) }
+pub block-a-requires-clause-inside : goal.block-a-requires-clause-inside
+block-a-requires-clause-inside c =
+    inside c.requires.ready 0 c.args.my c.args.mx (omega arith) c.requires.my_bound.0 c.requires.my_bound.1
 
-pub block-b-requires : goal.block-b-requires
-block-b-requires c =
-    let r = c.requires.ready in
-    let h = c.requires.my_bound.0 in
-    let k = c.requires.my_bound.1 in
-    let my = c.args.my in
-    let mx = c.args.mx in record { inside = inside r 1 my mx (omega arith) h k; p_in_bounds = omega (arith, second_room r my mx h k c.requires.s_in_bounds c.block-a.ensures) }
+pub block-b-requires-clause-inside : goal.block-b-requires-clause-inside
+block-b-requires-clause-inside c =
+    inside c.requires.ready 1 c.args.my c.args.mx (omega arith) c.requires.my_bound.0 c.requires.my_bound.1
 
-pub block-requires : goal.block-requires
-block-requires c =
+pub block-b-requires-clause-p_in_bounds : goal.block-b-requires-clause-p_in_bounds
+block-b-requires-clause-p_in_bounds c =
+    omega (arith, second_room c.requires.ready c.args.my c.args.mx c.requires.my_bound.0 c.requires.my_bound.1 c.requires.s_in_bounds c.block-a.ensures)
+
+pub block-requires-clause-inside : goal.block-requires-clause-inside
+block-requires-clause-inside c =
+    inside c.requires.ready 2 c.args.my c.args.mx (omega arith) c.requires.my_bound.0 c.requires.my_bound.1
+
+pub block-requires-clause-p_in_bounds : goal.block-requires-clause-p_in_bounds
+block-requires-clause-p_in_bounds c =
     let r = c.requires.ready in
     let h = c.requires.my_bound.0 in
     let k = c.requires.my_bound.1 in
     let my = c.args.my in
-    let mx = c.args.mx in record { inside = inside r 2 my mx (omega arith) h k; p_in_bounds = third_room r my mx h k (second_room r my mx h k c.requires.s_in_bounds c.block-a.ensures) c.block-b.ensures }
+    let mx = c.args.mx in
+    third_room r my mx h k (second_room r my mx h k c.requires.s_in_bounds c.block-a.ensures) c.block-b.ensures
 
 pub returns : goal.returns
 returns c =

@@ -1,4 +1,3 @@
-use Rattle.std.proofs.Common.{◌-◌}
 use Rattle.ycbcr_image.specs.Sizes.{sequence_of, frame_height_in_mbs}
 use Rattle.slice.specs.Macroblocks.{lends_in, row_in}
 use Rattle.slice.specs.Pieces.{Pieces}

@@ -5,14 +5,24 @@ use Rattle.slice.specs.Macroblocks.{some_most}
 use Rattle.slice.specs.Pieces.{laid_room, mend_room, put-laid}
 use Rattle.slice.proofs.write.put_some.Goals as goal
 
-pub macroblocks-end-requires : goal.macroblocks-end-requires
-macroblocks-end-requires c = record { ready = c.requires.ready; my_bound = c.requires.my_bound; n_in_bounds = laid_room c.args.out.now c.args.at _ _ c.requires.n_in_bounds }
+pub macroblocks-end-requires-clause-n_in_bounds : goal.macroblocks-end-requires-clause-n_in_bounds
+macroblocks-end-requires-clause-n_in_bounds c =
+    laid_room c.args.out.now c.args.at _ _ c.requires.n_in_bounds
 
-pub mend-requires : goal.mend-requires
-mend-requires c =
-    let g = c.macroblocks-end.ensures in
+pub mend-requires-clause-n_bound : goal.mend-requires-clause-n_bound
+mend-requires-clause-n_bound c =
     let m = some_most c.args.s c.requires.ready c.args.my c.args.mx c.args.n c.requires.my_bound.0 c.requires.my_bound.1 c.requires.n_bound in
-    let l = laid_room c.args.out.now c.args.at _ _ c.requires.n_in_bounds in record { le_at = c.requires.le_at; n_bound = omega (arith, m, g.place); n_in_bounds = omega (arith, l, g.place, laid-length g l); n_in_bounds_2 = mend_room g c.requires.n_in_bounds }
+    omega (arith, m, c.macroblocks-end.ensures.place)
+
+pub mend-requires-clause-n_in_bounds : goal.mend-requires-clause-n_in_bounds
+mend-requires-clause-n_in_bounds c =
+    let g = c.macroblocks-end.ensures in
+    let l = laid_room c.args.out.now c.args.at _ _ c.requires.n_in_bounds in
+    omega (arith, l, g.place, laid-length g l)
+
+pub mend-requires-clause-n_in_bounds_2 : goal.mend-requires-clause-n_in_bounds_2
+mend-requires-clause-n_in_bounds_2 c =
+    mend_room c.macroblocks-end.ensures c.requires.n_in_bounds
 
 pub returns : goal.returns
 returns c = put-laid c.macroblocks-end.ensures c.requires.n_in_bounds c.mend.ensures
