@@ -4,3 +4,4 @@ pub mod PutCode
 pub mod Faultless
 pub mod UnitCode
 pub mod Units
+mod Copying

@@ -50,7 +50,7 @@ fn put64(s: &[u8], p: usize, out: &mut [u8], at: usize) -> usize
     ensures { Put out.old at (part s.now p 64) out.new result }
 {
     if calm::calm(s, p, 64) {
-        rows::copy64(s, p, out, at);
+        rows::copy_fixed::<64>(s, p, out, at);
         return at + 64;
     }
     let z = calm::zeros_before(&*out, at);

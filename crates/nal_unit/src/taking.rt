@@ -293,7 +293,7 @@ fn take8(s: &[u8], p: usize, e: usize, out: &mut [u8], at: usize) -> usize
 {
     if e - p >= 16 {
         if calm(s, p, 16) {
-            rows::copy8(s, p, out, at);
+            rows::copy_fixed::<8>(s, p, out, at);
             return p + 8;
         }
     }
@@ -309,7 +309,7 @@ fn take12(s: &[u8], p: usize, e: usize, out: &mut [u8], at: usize) -> usize
 {
     if e - p >= 16 {
         if calm(s, p, 16) {
-            rows::copy12(s, p, out, at);
+            rows::copy_fixed::<12>(s, p, out, at);
             return p + 12;
         }
     }
@@ -324,7 +324,7 @@ fn take16(s: &[u8], p: usize, e: usize, out: &mut [u8], at: usize) -> usize
     ensures { Took s.now p e 16 out.old at out.new result }
 {
     if calm(s, p, 16) {
-        rows::copy16(s, p, out, at);
+        rows::copy_fixed::<16>(s, p, out, at);
         return p + 16;
     }
     take_marked(s, p, e, 8, out, at)
@@ -339,7 +339,7 @@ fn take24(s: &[u8], p: usize, e: usize, out: &mut [u8], at: usize) -> usize
 {
     if calm(s, p, 16) {
         if calm(s, p + 8, 16) {
-            rows::copy24(s, p, out, at);
+            rows::copy_fixed::<24>(s, p, out, at);
             return p + 24;
         }
     }

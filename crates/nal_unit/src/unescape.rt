@@ -70,7 +70,7 @@ fn put64(s: &[u8], p: usize, out: &mut [u8], a: usize) -> usize
     ensures { Unescapes s.now p (p + 64) out.old a out.new result }
 {
     if taking::calm(s, p, 64) {
-        rows::copy64(s, p, out, a);
+        rows::copy_fixed::<64>(s, p, out, a);
         return a + 64;
     }
     if taking::pairs(s, p, 21) {

@@ -41,8 +41,8 @@ zero_room2 c =
 not_one : (z : ℕ) → (z ≡ 1 → ⊥) → 0 < z → z ≤ 2 → z ≡ 2
 not_one z n h l = either z 1 (λ a. absurd (n (omega arith))) (λ b. omega arith)
 
-pub copy64-requires : goal.copy64-requires
-copy64-requires c =
+pub copy_fixed-requires : goal.copy_fixed-requires
+copy_fixed-requires c =
     let z = counted c.args.out.now c.args.at in
     (c.requires.le_p.1, omega (arith, c.requires, esc_least z (part c.args.s.now c.args.p 64), part_length c.args.s.now c.args.p 64 c.requires.le_p.1))
 
@@ -50,7 +50,7 @@ pub returns-then-calm : goal.returns-then-calm
 returns-then-calm c =
     put-quiet c.args.out.now c.args.at
     (quiet-part c.args.s.now c.args.p 64 (counted c.args.out.now c.args.at) c.requires.le_p.1 (counted_most c.args.out.now c.args.at) c.requires.at_bound (sym c.calm.ensures ∙ c.if-calm.true))
-    c.copy64.ensures
+    c.copy_fixed.ensures
     (rw (part_length c.args.s.now c.args.p 64 c.requires.le_p.1) refl)
 
 pub put_zeros1-requires : goal.put_zeros1-requires

@@ -6,4 +6,4 @@ use Rattle.nal_unit.proofs.taking.take12.Goals as goal
 pub returns-then-calm : goal.returns-then-calm
 returns-then-calm c =
     let a = c.args in
-    took-calm a.p a.e 16 12 (omega arith) (omega arith) (omega arith) (omega arith) (sym c.calm.ensures ∙ c.if-calm.true) c.copy12.ensures
+    took-calm a.p a.e 16 12 (omega arith) (omega arith) (omega arith) (omega arith) (sym c.calm.ensures ∙ c.if-calm.true) c.copy_fixed.ensures

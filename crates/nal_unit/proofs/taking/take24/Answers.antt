@@ -12,7 +12,7 @@ fits1 k = kept_room k.args.s.now k.args.p k.args.e 24 k.requires.le_p.1 k.requir
 fits2 : (k : goal.Then-calm) → k.args.p + 24 ≤ k.args.e
 fits2 k = kept_room k.args.s.now k.args.p k.args.e 24 k.requires.le_p.1 k.requires.le_p.2 k.requires.in_bounds
 
-fits3 : (k : goal.After-copy24-arg-1) → k.args.p + 24 ≤ k.args.e
+fits3 : (k : goal.After-copy_fixed-arg-1) → k.args.p + 24 ≤ k.args.e
 fits3 k = kept_room k.args.s.now k.args.p k.args.e 24 k.requires.le_p.1 k.requires.le_p.2 k.requires.in_bounds
 
 fits4 : (k : goal.After-slice_known-then-calm-2-1) → k.args.p + 24 ≤ k.args.e
@@ -24,8 +24,8 @@ calm-requires c = let f = fits1 c in (omega arith, omega arith)
 pub calm-requires-then-calm : goal.calm-requires-then-calm
 calm-requires-then-calm c = let f = fits2 c in (omega arith, omega arith)
 
-pub copy24-requires : goal.copy24-requires
-copy24-requires c = let f = fits3 c in (omega arith, omega arith)
+pub copy_fixed-requires : goal.copy_fixed-requires
+copy_fixed-requires c = let f = fits3 c in (omega arith, omega arith)
 
 pub returns-then-calm-2 : goal.returns-then-calm-2
 returns-then-calm-2 c =
@@ -36,4 +36,4 @@ returns-then-calm-2 c =
     let y = eqb-true (ins_count s p (p + 16)) 0 (sym c.calm.ensures ∙ c.if-calm.true) in
     let z = eqb-true (ins_count s (p + 8) (p + 8 + 16)) 0 (sym c.calm-then-calm.ensures ∙ c.if-calm-2.true) in
     let w = calm-join s p (p + 24) (p + 8) (p + 16) (omega arith) (omega arith) (omega arith) (omega arith) y (rw g at z) in
-    took-calm p c.args.e 24 24 (omega arith) (omega arith) h (omega arith) (eq-eqb (ins_count s p (p + 24)) 0 w) c.copy24.ensures
+    took-calm p c.args.e 24 24 (omega arith) (omega arith) h (omega arith) (eq-eqb (ins_count s p (p + 24)) 0 w) c.copy_fixed.ensures

@@ -9,7 +9,7 @@ use Rattle.nal_unit.specs.UnescapeCode.{unescapes_as, Unescaping, unescaping_sta
 use Rattle.nal_unit.proofs.unescape.put64.Goals as goal
 
 -- the stretch is calm
-whole1 : (c : goal.After-copy64-arg-1) → let a = c.args in kept a.s.now a.p (a.p + 64) ≡ part a.s.now a.p 64
+whole1 : (c : goal.After-copy_fixed-arg-1) → let a = c.args in kept a.s.now a.p (a.p + 64) ≡ part a.s.now a.p 64
 whole1 c =
     let a = c.args in
     kept-flat a.s.now a.p 64 64 (omega arith) (omega arith) (omega arith) (sym c.calm.ensures ∙ c.if-calm.true)
@@ -19,14 +19,14 @@ whole2 c =
     let a = c.args in
     kept-flat a.s.now a.p 64 64 (omega arith) (omega arith) (omega arith) (sym c.calm.ensures ∙ c.if-calm.true)
 
-pub copy64-requires : goal.copy64-requires
-copy64-requires c =
+pub copy_fixed-requires : goal.copy_fixed-requires
+copy_fixed-requires c =
     (omega arith, omega (arith, c.requires.p_in_bounds, ap length (whole1 c), part_length c.args.s.now c.args.p 64 (omega arith)))
 
 pub returns-then-calm : goal.returns-then-calm
 returns-then-calm c =
     let a = c.args in
-    unescapes_as (part a.s.now a.p 64) (whole2 c) c.copy64.ensures (omega (arith, part_length a.s.now a.p 64 (omega arith)))
+    unescapes_as (part a.s.now a.p 64) (whole2 c) c.copy_fixed.ensures (omega (arith, part_length a.s.now a.p 64 (omega arith)))
 
 -- the stretch is begun
 begun1 : (c : goal.After-write_zeros-arg-1) → let a = c.args in Unescaping a.s.now a.p (a.p + 64) a.out.now a.a a.out.now a.a a.p
