@@ -31,7 +31,7 @@ fn count_row(planes: Planes, s: Session, my: usize, z: usize) -> Count
     requires z_bound { z ≤ 2 }
     ensures { Counts z (row_in (sequence_of s) (lends_in planes.entry) my) result.n result.z }
 {
-    let mw = ycbcr_image::mbs_width(s);
+    let mw = s.mbs_width();
     let mut n: usize = 0;
     let mut zeros = z;
     for mx in 0..mw {
@@ -47,7 +47,7 @@ fn count_rows(planes: Planes, s: Session) -> Count
     requires { Ready (sequence_of s) (lends_in planes) }
     ensures { Counts 0 (cat (row_in (sequence_of s) (lends_in planes.entry)) 0 (frame_height_in_mbs (sequence_of s))) result.n result.z }
 {
-    let mh = ycbcr_image::mbs_height(s);
+    let mh = s.mbs_height();
     let mut n: usize = 0;
     let mut zeros: usize = 0;
     for my in 0..mh {

@@ -35,5 +35,5 @@ pub fn payload_len(s: Session) -> usize
     requires { Fine (sequence_of s) }
     ensures { result ≡ picture_length (sequence_of s) }
 {
-    3 + ycbcr_image::mbs_height(s) * ycbcr_image::mbs_width(s) * (2 + ycbcr_image::mb_bytes(s))
+    3 + s.mbs_height() * s.mbs_width() * (2 + s.mb_bytes())
 }

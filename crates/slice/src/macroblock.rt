@@ -109,8 +109,8 @@ fn block(
     requires p_in_bounds { at + block_bytes (sequence_of s).form p ≤ length out.old }
     ensures { Laid out.old at (block_in (sequence_of s).form p (lend a.now stride) my mx) out.new result }
 {
-    let w = ycbcr_image::block_row_bytes(s, p);
-    let h = ycbcr_image::mb_height(s, p);
+    let w = s.block_row_bytes(p);
+    let h = s.mb_height(p);
     lay_rows(a, my * (h * stride) + mx * w, stride, w, h, out, at)
 }
 
@@ -153,7 +153,7 @@ pub fn macroblock(
     requires mx_in_bounds { at + length (macroblock_in (sequence_of s) (lends_in planes) (my * pic_width_in_mbs (sequence_of s) + mx)) ≤ length out.old }
     ensures { Laid out.old at (macroblock_in (sequence_of s) (lends_in planes.entry) (my * pic_width_in_mbs (sequence_of s) + mx)) out.new result }
 {
-    let mw = ycbcr_image::mbs_width(s);
+    let mw = s.mbs_width();
     let a = head(out, at, my * mw + mx);
     samples(planes, s, my, mx, out, a)
 }

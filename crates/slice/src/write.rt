@@ -16,7 +16,7 @@ use ycbcr_image::Session;
 fn at_once(s: Session) -> usize
     ensures { result ≡ at_once (sequence_of s).form }
 {
-    1024 / ycbcr_image::mb_bytes(s)
+    1024 / s.mb_bytes()
 }
 
 // Writes n macroblocks of row my, the first in column mx: all are laid before they are tested and escaped where they stand, since a test of bytes that were
@@ -49,7 +49,7 @@ fn put_row(planes: Planes, s: Session, my: usize, out: &mut [u8], at: usize) -> 
     requires my_in_bounds { at + length (esc_from (counted out.old at) (row_in (sequence_of s) (lends_in planes) my)) ≤ length out.old }
     ensures { Put out.old at (row_in (sequence_of s) (lends_in planes.entry) my) out.new result }
 {
-    let mw = ycbcr_image::mbs_width(s);
+    let mw = s.mbs_width();
     let n = at_once(s);
     let mut a = at;
     for mx in (0..mw).step_by(n) {
@@ -65,7 +65,7 @@ fn put_rows(planes: Planes, s: Session, out: &mut [u8], at: usize) -> usize
     requires s_in_bounds { at + length (esc_from (counted out.old at) (cat (row_in (sequence_of s) (lends_in planes)) 0 (frame_height_in_mbs (sequence_of s)))) ≤ length out.old }
     ensures { Put out.old at (cat (row_in (sequence_of s) (lends_in planes.entry)) 0 (frame_height_in_mbs (sequence_of s))) out.new result }
 {
-    let mh = ycbcr_image::mbs_height(s);
+    let mh = s.mbs_height();
     let mut a = at;
     for my in 0..mh {
         a = put_row(planes, s, my, out, a);
