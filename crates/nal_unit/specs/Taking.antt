@@ -4,10 +4,10 @@
 --     Took s p e n d a d' r    those were written at the place a of a buffer that held d and holds d', and r is a place behind them
 --     Stands s e X n p         p is the place of the byte n of the payload X: what a reader that knows X keeps of its place
 --     pass_stretch             a stretch that keeps v; took_stretch, written as v; pass-calm, took-calm, where no byte of it is inserted; pass-zeros
---     zero_pairs s p n         the 3 * n bytes from p on are n pairs of zeros, an inserted byte in each; behind_zeros: the place behind n bytes that stand so, else p
+--     zero_pairs s p n         the 3 * n bytes from p on are n pairs of zeros, an inserted byte in each; behind_zeros: the place behind n bytes that stand so
 --     stands_start             the place behind a unit's header; stands-pass, stands-took, stands_stretch, stands-calm from there on
 -- Assumes nothing.
-use Rattle.std.specs.Prelude.{◌≡◌, refl, List, ◌∷◌, ◌++◌, Bool, true, cond, ◌&&◌, ℕ, ◌+◌, ◌-◌, ◌*◌, ◌/◌, ◌≤◌, ◌<◌, leb, eqb, length, take, drop, get_or, set, replicate}
+use Rattle.std.specs.Prelude.{◌≡◌, refl, Option, Some, None, List, ◌∷◌, ◌++◌, Bool, true, cond, ◌&&◌, ℕ, ◌+◌, ◌-◌, ◌*◌, ◌/◌, ◌≤◌, ◌<◌, leb, eqb, length, take, drop, get_or, set, replicate}
 use Rattle.std.proofs.Common.{sym, ap, ◌∙◌, add-zero, arith, length-drop, take-add, take_at, drop_at, drop-drop, length-take-le, get_or-drop, eqb-true, eq-eqb}
 use Rattle.std.proofs.lemmas.List.{length-replicate}
 use Rattle.lists.specs.Fill.{splice, splice_none, set-splice, splice-splice}
@@ -180,6 +180,6 @@ zero_pairs s p n = zero_pair s p && every (alike s) p (3 * (n - 1))
 unfoldable pub zeros_in : List ℕ → ℕ → ℕ → ℕ → Bool
 zeros_in s p e n = leb 1 (n / 2) && (eqb (2 * (n / 2)) n && (leb (3 * (n / 2)) (e - p) && zero_pairs s p (n / 2)))
 
--- the place behind them; p where they don't
-unfoldable pub behind_zeros : List ℕ → ℕ → ℕ → ℕ → ℕ
-behind_zeros s p e n = cond (zeros_in s p e n) (p + 3 * (n / 2)) p
+-- the place behind them, where they do
+unfoldable pub behind_zeros : List ℕ → ℕ → ℕ → ℕ → Option ℕ
+behind_zeros s p e n = cond (zeros_in s p e n) (Some (p + 3 * (n / 2))) None

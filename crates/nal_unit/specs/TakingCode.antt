@@ -6,9 +6,9 @@
 --     Skipping                bytes passed by counts
 --     Pair, Repeats           zeros in pairs, an inserted byte in each: what a black picture's payload is in the unit
 --     pair_first ..           the test of three bytes; pairs-are: bytes that are found to be pairs of zeros are kept as zeros
---     zeros-found ..          the place behind such zeros; zeros-are: what is passed are zeros
+--     zeros-found ..          the place behind such zeros; zeros-behind, zeros-are: what is passed stands behind p, and is zeros
 -- Assumes nothing.
-use Rattle.std.specs.Prelude.{◌≡◌, refl, List, [], ◌∷◌, ◌++◌, Bool, true, false, cond, ◌&&◌, ℕ, zero, suc, ◌+◌, ◌-◌, ◌*◌, ◌/◌, ◌≤◌, ◌<◌, leb, eqb, length, take, drop, get_or, set, replicate}
+use Rattle.std.specs.Prelude.{◌≡◌, refl, Some, None, List, [], ◌∷◌, ◌++◌, Bool, true, false, cond, ◌&&◌, ℕ, zero, suc, ◌+◌, ◌-◌, ◌*◌, ◌/◌, ◌≤◌, ◌<◌, leb, eqb, length, take, drop, get_or, set, replicate}
 use Rattle.std.proofs.Common.{sym, ap, ◌∙◌, zero-add, add-zero, add_assoc, arith, length-append, length-drop, length-set, length-take-le, set-set, leb-true, eqb-true, le-leb, eq-eqb, ne_eqb}
 use Rattle.std.proofs.Math.Bool.{and_assoc, and-true, and-false, and-eq-true_iff}
 use Rattle.std.specs.Int.Bits.{bit_or, bit_xor}
@@ -369,49 +369,64 @@ alike-raise s {p} {n} {f} {k} g h e = flag-raise g h (ne_eqb (get_or s (p + k) 0
 
 -- The place behind zeros, by the four tests
 
-pub zeros-found : (s : List ℕ) (p e n : ℕ) → 1 ≤ n / 2 → 2 * (n / 2) ≡ n → 3 * (n / 2) ≤ e - p → zero_pairs s p (n / 2) ≡ true → p + 3 * (n / 2) ≡ behind_zeros s p e n
+pub zeros-found : (s : List ℕ) (p e n : ℕ) → 1 ≤ n / 2 → 2 * (n / 2) ≡ n → 3 * (n / 2) ≤ e - p → zero_pairs s p (n / 2) ≡ true → Some (p + 3 * (n / 2)) ≡ behind_zeros s p e n
 unfolding behind_zeros zeros_in
 zeros-found s p e n a b c d = rw (le-leb 1 (n / 2) a, eq-eqb (2 * (n / 2)) n b, le-leb (3 * (n / 2)) (e - p) c, d) refl
 
 -- one that fails is enough
-not_zeros : (s : List ℕ) (p e n : ℕ) → zeros_in s p e n ≡ false → p ≡ behind_zeros s p e n
+not_zeros : (s : List ℕ) (p e n : ℕ) → zeros_in s p e n ≡ false → None ≡ behind_zeros s p e n
 unfolding behind_zeros
 not_zeros s p e n f = rw f refl
 
-pub zeros_few : (s : List ℕ) (p e n : ℕ) → n / 2 < 1 → p ≡ behind_zeros s p e n
+pub zeros_few : (s : List ℕ) (p e n : ℕ) → n / 2 < 1 → None ≡ behind_zeros s p e n
 unfolding zeros_in
 zeros_few s p e n h = not_zeros s p e n (rw (lt-leb 1 (n / 2) h) refl)
 
-pub zeros_odd : (s : List ℕ) (p e n : ℕ) → (2 * (n / 2) ≡ n → ⊥) → p ≡ behind_zeros s p e n
+pub zeros_odd : (s : List ℕ) (p e n : ℕ) → (2 * (n / 2) ≡ n → ⊥) → None ≡ behind_zeros s p e n
 unfolding zeros_in
 zeros_odd s p e n h = not_zeros s p e n (rw (ne_eqb (2 * (n / 2)) n h) (and-false (leb 1 (n / 2))))
 
-pub zeros_short : (s : List ℕ) (p e n : ℕ) → e - p < 3 * (n / 2) → p ≡ behind_zeros s p e n
+pub zeros_short : (s : List ℕ) (p e n : ℕ) → e - p < 3 * (n / 2) → None ≡ behind_zeros s p e n
 unfolding zeros_in
 zeros_short s p e n h =
     not_zeros s p e n (rw (lt-leb (3 * (n / 2)) (e - p) h, and-false (eqb (2 * (n / 2)) n)) (and-false (leb 1 (n / 2))))
 
-pub zeros_not : (s : List ℕ) (p e n : ℕ) → zero_pairs s p (n / 2) ≡ false → p ≡ behind_zeros s p e n
+pub zeros_not : (s : List ℕ) (p e n : ℕ) → zero_pairs s p (n / 2) ≡ false → None ≡ behind_zeros s p e n
 unfolding zeros_in
 zeros_not s p e n h =
     not_zeros s p e n (rw (h, and-false (leb (3 * (n / 2)) (e - p)), and-false (eqb (2 * (n / 2)) n)) (and-false (leb 1 (n / 2))))
 
--- what is passed are zeros
-pub zeros-are : (s : List ℕ) (p e n r : ℕ) → 2 ≤ p → p ≤ e → e ≤ length s → r ≡ behind_zeros s p e n → p < r → (kept s p r ≡ replicate n 0) × (r ≤ e)
-unfolding behind_zeros zeros_in
-zeros-are s p e n r i h l f k = by (zeros_in s p e n) refl
+-- what is passed stands behind p, and is zeros
+zeros-in : (s : List ℕ) (p e n r : ℕ) → Some r ≡ behind_zeros s p e n → (zeros_in s p e n ≡ true) × (r ≡ p + 3 * (n / 2))
+unfolding behind_zeros
+zeros-in s p e n r f = by (zeros_in s p e n) refl
   where
-    by : (t : Bool) → zeros_in s p e n ≡ t → (kept s p r ≡ replicate n 0) × (r ≤ e)
+    by : (t : Bool) → zeros_in s p e n ≡ t → (zeros_in s p e n ≡ true) × (r ≡ p + 3 * (n / 2))
     by true t =
-        let m : ℕ = n / 2 in
-        let a = (and-eq-true_iff (leb 1 m) (eqb (2 * m) n && (leb (3 * m) (e - p) && zero_pairs s p m))).0 t in
-        let b = (and-eq-true_iff (eqb (2 * m) n) (leb (3 * m) (e - p) && zero_pairs s p m)).0 a.1 in
-        let c = (and-eq-true_iff (leb (3 * m) (e - p)) (zero_pairs s p m)).0 b.1 in
-        let x : 1 ≤ m = leb-true 1 m a.0 in
-        let y : 2 * m ≡ n = eqb-true (2 * m) n b.0 in
-        let z : 3 * m ≤ e - p = leb-true (3 * m) (e - p) c.0 in
-        let q : r ≡ p + 3 * m = f ∙ rw t refl in
-        (rw q (pairs-are s p m i x (omega arith) c.1 ∙ ap (λ (j : ℕ). replicate j 0) y), omega arith)
+        let g : Some r ≡ Some (p + 3 * (n / 2)) = f ∙ rw t refl in
+        (t, cc)
     by false t =
-        let q : r ≡ p = f ∙ rw t refl in
-        absurd (omega arith)
+        let g : Some r ≡ None = f ∙ rw t refl in
+        cc
+
+pub zeros-behind : (s : List ℕ) (p e n r : ℕ) → Some r ≡ behind_zeros s p e n → p < r
+unfolding zeros_in
+zeros-behind s p e n r f =
+    let m : ℕ = n / 2 in
+    let g = zeros-in s p e n r f in
+    let a = (and-eq-true_iff (leb 1 m) (eqb (2 * m) n && (leb (3 * m) (e - p) && zero_pairs s p m))).0 g.0 in
+    omega (arith, leb-true 1 m a.0, g.1)
+
+pub zeros-are : (s : List ℕ) (p e n r : ℕ) → 2 ≤ p → p ≤ e → e ≤ length s → Some r ≡ behind_zeros s p e n → (kept s p r ≡ replicate n 0) × (r ≤ e)
+unfolding zeros_in
+zeros-are s p e n r i h l f =
+    let m : ℕ = n / 2 in
+    let g = zeros-in s p e n r f in
+    let a = (and-eq-true_iff (leb 1 m) (eqb (2 * m) n && (leb (3 * m) (e - p) && zero_pairs s p m))).0 g.0 in
+    let b = (and-eq-true_iff (eqb (2 * m) n) (leb (3 * m) (e - p) && zero_pairs s p m)).0 a.1 in
+    let c = (and-eq-true_iff (leb (3 * m) (e - p)) (zero_pairs s p m)).0 b.1 in
+    let x : 1 ≤ m = leb-true 1 m a.0 in
+    let y : 2 * m ≡ n = eqb-true (2 * m) n b.0 in
+    let z : 3 * m ≤ e - p = leb-true (3 * m) (e - p) c.0 in
+    let q : r ≡ p + 3 * m = g.1 in
+    (rw q (pairs-are s p m i x (omega arith) c.1 ∙ ap (λ (j : ℕ). replicate j 0) y), omega arith)

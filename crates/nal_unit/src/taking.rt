@@ -207,23 +207,17 @@ pub fn pairs(s: &[u8], p: usize, n: usize) -> bool
     f == 0
 }
 
-// The place behind the payload's next n bytes where these are zeros in such pairs; the place p where they are not.
-pub fn zeros(s: &[u8], p: usize, e: usize, n: usize) -> usize
+// The place behind the payload's next n bytes, where these are zeros in such pairs.
+pub fn zeros(s: &[u8], p: usize, e: usize, n: usize) -> Option<usize>
     requires le_p { (2 ≤ p) × (p ≤ e) × (e ≤ length s.now) }
     requires n_in_bounds { n ≤ length (kept s.now p e) }
     ensures { result ≡ behind_zeros s.now p e n }
 {
     let m = n / 2;
-    if m > 0 {
-        if 2 * m == n {
-            if 3 * m <= e - p {
-                if pairs(s, p, m) {
-                    return p + 3 * m;
-                }
-            }
-        }
+    if m > 0 && 2 * m == n && 3 * m <= e - p && pairs(s, p, m) {
+        return Some(p + 3 * m);
     }
-    p
+    None
 }
 
 // A place behind the payload's next n bytes, where inserted bytes stand among them: pairs of zeros are passed at once, others by their counts.
@@ -232,11 +226,10 @@ fn pass_marked(s: &[u8], p: usize, e: usize, n: usize) -> usize
     requires n_in_bounds { n ≤ length (kept s.now p e) }
     ensures { Passed s.now p e n result }
 {
-    let r = zeros(s, p, e, n);
-    if p < r {
-        return r;
+    match zeros(s, p, e, n) {
+        Some(r) => r,
+        None => skip(s, p, e, n),
     }
-    skip(s, p, e, n)
 }
 
 // A place behind the payload's next n bytes, where no inserted byte stands from the place c on. Calm bytes are passed as they stand.
