@@ -1,12 +1,13 @@
 -- Stretches that escaping passes at once (calm.rt).
 --     Quiet z xs            no byte of xs gets 03, after z counted zeros: xs is its own escape (quiet-esc)
 --     plain_at, quiet-part  whether a byte of a slice goes without 03, by the bytes before it there; a part of it whose bytes all do
+--     every_true, every_false, every_by    what a look at each place says of `every`
 --     blanks, zero_at       zero bytes; whether a byte of a slice is zero
 --     triples               what 64 zeros are escaped to, behind one counted zero and behind two
 -- Assumes nothing.
 use Rattle.std.specs.Prelude.{◌≡◌, refl, List, [], ◌∷◌, Bool, true, false, not, ◌&&◌, ℕ, zero, suc, ◌+◌, ◌*◌, ◌/◌, ◌%◌, ◌≤◌, ◌<◌, leb, eqb, length, get_or, replicate}
 use Rattle.std.proofs.Common.{sym, ◌∙◌, mod-eq_of_lt, add-one, arith, eqb-true, le-leb, eq-eqb, ne_eqb}
-use Rattle.std.proofs.Math.Bool.{and_assoc, and-eq-true_iff}
+use Rattle.std.proofs.Math.Bool.{and_assoc, and-false, and-eq-true_iff}
 use Rattle.std.specs.Int.Bits.{bit_and, bit_or}
 use Rattle.std.proofs.lemmas.Nat.Bits.{and_high}
 use Rattle.std.proofs.lemmas.Bool.{not-true, lt-leb}
@@ -50,6 +51,26 @@ quiet-part s p (suc n) z h l m q =
     let m' : zeros z x ≤ counted s (p + 1) = rw (counted_step s p (omega arith)) (zeros-run z (counted s p) x l m) in
     rw (← add-one n, part-cons s p n (omega arith))
     (more (less_plain z (counted s p) x m (not-true (inserts (counted s p) x) a.0)) (quiet-part s (p + 1) n (zeros z x) (omega arith) (zeros_most z x l) m' a.1))
+
+-- a test that holds at each place of a stretch, and one that fails at one
+pub every_true : (f : ℕ → Bool) (p n : ℕ) → ((k : ℕ) → p ≤ k → k < p + n → f k ≡ true) → every f p n ≡ true
+unfolding every
+every_true f p zero h = refl
+every_true f p (suc n) h = rw (h p (omega arith) (omega arith)) (every_true f (p + 1) n (λ k a b. h k (omega arith) (omega arith)))
+
+pub every_false : (f : ℕ → Bool) (p n k : ℕ) → p ≤ k → k < p + n → f k ≡ false → every f p n ≡ false
+unfolding every
+every_false f p zero k a b e = absurd (omega arith)
+every_false f p (suc n) k a b e =
+    either k p
+    (λ l. let q : k ≡ p = omega arith in rw (rw q at e) refl)
+    (λ l. rw (every_false f (p + 1) n k (omega arith) (omega arith) e) (and-false (f p)))
+
+-- so that a Bool which says both is that test
+pub every_by : (b : Bool) (f : ℕ → Bool) (p n : ℕ) → (b ≡ true → (k : ℕ) → p ≤ k → k < p + n → f k ≡ true)
+    → (b ≡ false → (k : ℕ) × (p ≤ k) × (k < p + n) × (f k ≡ false)) → b ≡ every f p n
+every_by true f p n h g = sym (every_true f p n (h refl))
+every_by false f p n h g = let w = g refl in sym (every_false f p n w.0 w.1 w.2 w.3)
 
 -- n zero bytes
 unfoldable pub blanks : ℕ → List ℕ
