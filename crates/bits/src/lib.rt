@@ -7,10 +7,11 @@ ghost use Rattle.lists.specs.Part.{part};
 ghost use Rattle.bits.specs.Bits.{low_bits, bits_of, value, bit_count, room_for, BitsPut};
 
 // Whether `n` bits have room at `place` of a buffer of `len` bytes.
+#[tactic(auto, unfolding(crate::specs::Bits::room_for))]
 pub fn room(len: usize, place: usize, n: usize) -> bool
     ensures { result ≡ room_for len place n }
 {
-    if 18446744073709551615 - place < n {
+    if usize::MAX - place < n {
         return false;
     }
     if len < place / 8 {
@@ -30,6 +31,7 @@ fn with_bit(b: u8, j: usize, v: u8) -> u8
 }
 
 // The bit at `place`.
+#[tactic(auto, using(crate::specs::Bits::bit_is))]
 pub fn bit_at(s: &[u8], place: usize) -> u8
     requires { place < 8 * length s.now }
     ensures { result ≡ get_or (bits_of s.now) place 0 }
@@ -51,10 +53,8 @@ pub fn put_bits(s: &mut [u8], place: usize, n: usize, v: u64) -> usize
     requires { (n ≤ 64) × (place + n ≤ bit_count s.old) }
     ensures { BitsPut s.old place (low_bits n v) s.new result }
 {
-    let mut i = 0;
-    while i < n {
+    for i in 0..n {
         set_bit(s, place + i, ((v >> (n - 1 - i)) % 2) as u8);
-        i += 1;
     }
     place + n
 }
@@ -65,10 +65,8 @@ pub fn get_bits(s: &[u8], place: usize, n: usize) -> u64
     ensures { result ≡ value (part (bits_of s.now) place n) }
 {
     let mut v: u64 = 0;
-    let mut i = 0;
-    while i < n {
+    for i in 0..n {
         v = 2 * v + bit_at(s, place + i) as u64;
-        i += 1;
     }
     v
 }

@@ -57,24 +57,6 @@ facts b j v hb hj hv =
 known : (c : goal.Start) → Sound c.args.b c.args.j c.args.v
 known c = facts c.args.b c.args.j c.args.v c.ranges.b.fits c.requires.0 c.requires.1
 
-pub nonzero_div-above : goal.nonzero_div-above
-nonzero_div-above c = (known c).some
-
-pub overflow_mul-above : goal.overflow_mul-above
-overflow_mul-above c = let k = known c in omega arith
-
-pub overflow_add-above : goal.overflow_add-above
-overflow_add-above c = let k = known c in omega arith
-
-pub overflow_mul-result : goal.overflow_mul-result
-overflow_mul-result c = let k = known c in omega arith
-
-pub nonzero_rem-result : goal.nonzero_rem-result
-nonzero_rem-result c = (known c).some
-
-pub overflow_add-result : goal.overflow_add-result
-overflow_add-result c = let k = known c in omega arith
-
 pub overflow_cast-result-2 : goal.overflow_cast-result-2
 overflow_cast-result-2 c = let k = known c in omega arith
 
