@@ -1,5 +1,6 @@
 // Bits of a lent buffer, the most significant of each byte first: the role of BitVec<u8, Msb0> in the Rust. A bit's place is
 // counted from the buffer's first bit. What is public here is a leaf for proved callers; codes with refusals stand in golomb.
+// Buffer and place stay two parameters, since `bit_at`, `put_bits` and `get_bits` promise to take them so.
 #![tactic(auto)]
 
 ghost use Rattle.std.specs.Prelude.{◌≡◌, ◌+◌, ◌*◌, ◌≤◌, ◌<◌, length, get_or, set};

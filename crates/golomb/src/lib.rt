@@ -28,6 +28,7 @@ fn num_bits(x: u32) -> usize
     }
     let mut rest = x;
     let mut value = 0;
+    // A `while`: it ends when no digit is left, and goes over no range, so a `for` is no plainer.
     while rest != 0 {
         rest >>= 1;
         value += 1;
@@ -35,13 +36,16 @@ fn num_bits(x: u32) -> usize
     value
 }
 
-// The bits of the unsigned code of `x`, a number that has one.
+// The bits of the unsigned code of `x`, a number that has one. That it has one stays a clause here and below, and no type:
+// `put_ue` is public and asks it so.
 fn code_len(x: u32) -> usize
     requires { x ≤ 2 ^ 32 - 2 }
     ensures { result ≡ length (ue x) }
 {
     2 * num_bits(x + 1) - 1
 }
+
+// Buffer and place stay two parameters, since `put_ue`, `write_ue` and `write_se` promise to take them so; for reading both are `BitReader`.
 
 // Writes the unsigned code of `x` where it has room, and answers the place behind it: a leaf for proved callers.
 pub fn put_ue(buffer: &mut [u8], place: usize, x: u32) -> usize
@@ -82,9 +86,9 @@ fn mapped(x: i32) -> u32
 {
     let above = x > 0;
     if above {
-        2 * (x as u32) - 1
+        2 * x.unsigned_abs() - 1
     } else {
-        2 * (-x as u32)
+        2 * x.unsigned_abs()
     }
 }
 
@@ -104,17 +108,15 @@ pub fn write_se(buffer: &mut [u8], place: usize, x: i32) -> Result<usize, WriteE
 fn leading_zero_bits(payload: &[u8], place: usize) -> usize
     ensures { result ≡ min (leading_zero_bits (bits_from payload.now place)) 32 }
 {
-    let mut zeros = 0;
-    while zeros < 32 {
+    for zeros in 0..32 {
         if !bits::room(payload.len(), place, zeros + 1) {
             return zeros;
         }
         if bits::bit_at(payload, place + zeros) != 0 {
             return zeros;
         }
-        zeros += 1;
     }
-    zeros
+    32
 }
 
 // The number whose unsigned code stands at `place`, and the place behind the code.

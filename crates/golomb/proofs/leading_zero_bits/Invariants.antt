@@ -1,11 +1,8 @@
-use Rattle.std.proofs.Common.{◌≡◌, ◌+◌, ◌-◌, ◌≤◌}
+use Rattle.std.proofs.Common.{◌≡◌, ◌+◌}
 use Rattle.bits.specs.Bits.{bits_from}
 use Rattle.golomb.specs.Read.{leading_zero_bits}
 use Rattle.golomb.proofs.leading_zero_bits.Given as goal
 
 abbrev pub invariant-loop-zeros : goal.invariant-loop-zeros
 invariant-loop-zeros l =
-    (l.zeros ≤ 32) × (l.zeros + leading_zero_bits (bits_from l.payload (l.place + l.zeros)) ≡ leading_zero_bits (bits_from l.payload l.place))
-
-abbrev pub decreases-loop-zeros : goal.decreases-loop-zeros
-decreases-loop-zeros l = 32 - l.zeros
+    l.zeros + leading_zero_bits (bits_from l.payload (l.place + l.zeros)) ≡ leading_zero_bits (bits_from l.payload l.place)

@@ -1,6 +1,5 @@
 -- `golomb::write_se` meets its contract: of all i32 the least alone has no code, and the code of any other is that of the number it becomes. Assumes nothing.
-
-use Rattle.std.proofs.Common.{◌≡◌, refl, sym, ap, ◌∙◌, subst, true, false, ℕ, ◌-◌, ◌^◌, ◌≤◌, arith, ℤ, pos, negsuc, nat_abs, le-leb}
+use Rattle.std.proofs.Common.{◌≡◌, refl, sym, ap, ◌∙◌, true, false, ℕ, ◌-◌, ◌^◌, ◌≤◌, arith, ℤ, pos, negsuc, nat_abs, le-leb}
 use mir.Syntax.{w32}
 use mir.Val.{SFits, of_z}
 use mir.Facts.{to_z-of_z}
@@ -25,38 +24,23 @@ code : (x : ℤ) → nat_abs x ≤ 2 ^ 31 - 1 → has_se x ≡ true
 unfolding has_se
 code x h = le-leb (nat_abs x) (2 ^ 31 - 1) h
 
-pub returns-then-least : goal.returns-then-least
-returns-then-least c =
-    let n = no_code c.args.x c.ranges.x c.if-least.true in
-    let e = write_none (se c.args.x) c.args.buffer.now c.args.place in record { answer = rw n (sym e); bytes = rw (n, e) refl }
-
-few1 : (c : goal.After-put_code-arg-1) → nat_abs c.args.x ≤ 2 ^ 31 - 1
-few1 c = small c.args.x c.ranges.x c.if-least.false
-
-few2 : (c : goal.After-mapped) → nat_abs c.args.x ≤ 2 ^ 31 - 1
-few2 c = small c.args.x c.ranges.x c.if-least.false
-
-few3 : (c : goal.After-slice_known-2-1) → nat_abs c.args.x ≤ 2 ^ 31 - 1
-few3 c = small c.args.x c.ranges.x c.if-least.false
-
-pub mapped-requires : goal.mapped-requires
-mapped-requires c = subst (λ (z : ℤ). nat_abs z ≤ 2 ^ 31 - 1) (sym (to_z-of_z c.ranges.x)) (few1 c)
-
--- what `mapped` answered; a signed local holds bits, which `to_z-of_z` reads back
-is_mapped1 : (c : goal.After-mapped) → c.mapped.result ≡ mapped c.args.x
-is_mapped1 c = c.mapped.ensures ∙ ap mapped (to_z-of_z c.ranges.x)
-
-is_mapped2 : (c : goal.After-slice_known-2-1) → c.mapped.result ≡ mapped c.args.x
-is_mapped2 c = c.mapped.ensures ∙ ap mapped (to_z-of_z c.ranges.x)
-
-pub put_code-requires : goal.put_code-requires
-put_code-requires c = rw (is_mapped1 c) (map_most c.args.x (few2 c))
-
 -- the code written is the signed code
 is_se : (x : ℤ) (m : ℕ) → m ≡ mapped x → ue m ≡ se x
 unfolding se
 is_se x m e = ap ue e
 
+pub returns-then-least : goal.returns-then-least
+returns-then-least c =
+    let n = no_code c.args.x c.ranges.x c.if-least.true in
+    let e = write_none (se c.args.x) c.args.buffer.now c.args.place in
+    record { answer = rw n (sym e); bytes = rw (n, e) refl }
+
+-- a signed local holds bits, which `to_z-of_z` reads back
+pub put_code-requires : goal.put_code-requires
+put_code-requires c =
+    rw (c.mapped.ensures, to_z-of_z c.ranges.x) (map_most c.args.x (small c.args.x c.ranges.x c.if-least.false))
+
 pub returns : goal.returns
 returns c =
-    rw (code c.args.x (few3 c), ← is_se c.args.x c.mapped.result (is_mapped2 c)) c.put_code.ensures
+    let m : c.mapped.result ≡ mapped c.args.x = c.mapped.ensures ∙ ap mapped (to_z-of_z c.ranges.x) in
+    rw (code c.args.x (small c.args.x c.ranges.x c.if-least.false), ← is_se c.args.x c.mapped.result m) c.put_code.ensures
