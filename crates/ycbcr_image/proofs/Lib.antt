@@ -1,5 +1,5 @@
 pub mod Accepted
 pub mod Cases
 pub mod Passed
-pub mod Halved
+pub mod Facts
 pub mod Multiples

@@ -45,3 +45,6 @@ passed_next s i e =
     let n = neither _ _ e in
     let m = row_none (session_bad s (of_picture i)) _ _ n.1 in
     (same s (of_picture i) m.0, pass i n.0 m.1)
+
+-- what the proofs of `check_start` and `check_next` need
+pub ruleset passing = (shape-accepted)

@@ -139,6 +139,7 @@ impl Session {
     }
 
     // The columns of plane p's block in a macroblock.
+    #[tactic(auto, using(crate::proofs::Facts::block_wide))]
     fn mb_width(self, p: u32) -> usize
         ensures { result ≡ block_width (sequence_of self).form p }
     {
@@ -146,6 +147,7 @@ impl Session {
     }
 
     // The rows of the block.
+    #[tactic(auto, using(crate::proofs::Facts::block_high))]
     pub fn mb_height(self, p: u32) -> usize
         ensures { result ≡ block_height (sequence_of self).form p }
     {
@@ -187,6 +189,7 @@ impl Session {
     }
 
     // The bytes of a row of plane p's block.
+    #[tactic(auto, using(crate::proofs::Facts::sides), unfolding(crate::specs::Form::block_row_bytes))]
     pub fn block_row_bytes(self, p: u32) -> usize
         ensures { result ≡ block_row_bytes (sequence_of self).form p }
     {
@@ -194,6 +197,7 @@ impl Session {
     }
 
     // The bytes of a macroblock's samples.
+    #[tactic(auto, using(crate::proofs::Facts::chroma_most), unfolding(crate::specs::Form::mb_bytes))]
     pub fn mb_bytes(self) -> usize
         ensures { result ≡ mb_bytes (sequence_of self).form }
     {
@@ -219,6 +223,7 @@ impl Session {
     }
 
     // The visible columns of plane p.
+    #[tactic(auto, using(crate::proofs::Facts::visible_wide))]
     fn visible_width(self, p: u32) -> usize
         ensures { result ≡ visible_width (sequence_of self) p }
     {
@@ -226,6 +231,7 @@ impl Session {
     }
 
     // Its visible rows.
+    #[tactic(auto, using(crate::proofs::Facts::visible_high))]
     pub fn visible_rows(self, p: u32) -> usize
         ensures { result ≡ visible_height (sequence_of self) p }
     {
@@ -233,6 +239,7 @@ impl Session {
     }
 
     // The bytes of a visible row.
+    #[tactic(auto, using(crate::proofs::Facts::sides), unfolding(crate::specs::Sizes::visible_row_bytes))]
     pub fn visible_row_bytes(self, p: u32) -> usize
         ensures { result ≡ visible_row_bytes (sequence_of self) p }
     {
@@ -240,6 +247,7 @@ impl Session {
     }
 
     // The bytes of the visible rows, stored tight.
+    #[tactic(auto, using(crate::proofs::Facts::tight_fits), unfolding(crate::specs::Sizes::tight_length))]
     pub fn tight_len(self, p: u32) -> usize
         requires { accepted (sequence_of self) ≡ true }
         ensures { result ≡ tight_length (sequence_of self) p }
@@ -248,14 +256,18 @@ impl Session {
     }
 
     // The bytes of a row of plane p with its padding.
+    #[tactic(auto, using(crate::proofs::Facts::sides, crate::proofs::Multiples::fits, crate::proofs::Multiples::next), unfolding(crate::specs::Sizes::padded_row_bytes, crate::specs::Sizes::padded_width))]
     fn padded_row_bytes(self, p: u32) -> usize
         requires { p < planes (sequence_of self).form }
         ensures { result ≡ padded_row_bytes (sequence_of self) p }
     {
-        self.row_bytes(self.visible_width(p).next_multiple_of(self.mb_width(p)))
+        let visible = self.visible_width(p);
+        let padded = visible.next_multiple_of(self.mb_width(p));
+        self.row_bytes(padded)
     }
 
     // Its rows with the padding.
+    #[tactic(auto, using(crate::proofs::Facts::sides, crate::proofs::Multiples::fits, crate::proofs::Multiples::next), unfolding(crate::specs::Sizes::padded_height))]
     fn padded_rows(self, p: u32) -> usize
         requires { p < planes (sequence_of self).form }
         ensures { result ≡ padded_height (sequence_of self) p }
@@ -298,6 +310,7 @@ impl Session {
     }
 
     // Width, height, colour or depth of s is not this session's.
+    #[tactic(auto, using(crate::proofs::Facts::same_kind, crate::proofs::Facts::same_depth), unfolding(crate::specs::Refusals::session_bad))]
     pub fn differs(self, s: Session) -> bool
         ensures { result ≡ session_bad (sequence_of self) (sequence_of s) }
     {
@@ -313,7 +326,7 @@ impl Session {
     }
 
     // The tests of plane p, in the table's order.
-    #[tactic(auto, unfolding(crate::specs::Refusals::plane_refusal, crate::specs::Refusals::stride_bad, crate::specs::Refusals::rows_bad))]
+    #[tactic(auto, using(crate::proofs::Facts::row_there), unfolding(crate::specs::Refusals::plane_refusal, crate::specs::Refusals::stride_bad, crate::specs::Refusals::rows_bad))]
     fn check_plane(self, p: u32, a: DataPlane) -> Result<(), Refusal>
         requires sizes { accepted (sequence_of self) ≡ true }
         requires there { p < planes (sequence_of self).form }
@@ -376,7 +389,7 @@ impl YCbCrImage {
     }
 
     // The tests of the planes: Y, then Cb, then Cr.
-    #[tactic(auto, unfolding(crate::specs::Refusals::planes_refusal, crate::specs::Refusals::chroma_refusal, crate::specs::Refusals::first))]
+    #[tactic(auto, using(crate::proofs::Facts::there), unfolding(crate::specs::Refusals::planes_refusal, crate::specs::Refusals::chroma_refusal, crate::specs::Refusals::first))]
     fn check_planes(self) -> Result<(), Refusal>
         requires { accepted (of_picture self) ≡ true }
         ensures { refusal_number result ≡ planes_refusal self }
@@ -391,7 +404,7 @@ impl YCbCrImage {
     }
 
     // What a start call with this picture is refused with.
-    #[tactic(auto, unfolding(crate::specs::Refusals::refusal_of, crate::specs::Refusals::first))]
+    #[tactic(auto, using(crate::proofs::Passed::passing), unfolding(crate::specs::Refusals::refusal_of, crate::specs::Refusals::first))]
     pub fn check_start(self) -> Result<(), Refusal>
         ensures { refusal_number result ≡ refusal_of self }
     {
@@ -400,11 +413,11 @@ impl YCbCrImage {
     }
 
     // The same of a next call in the session held.
-    #[tactic(auto, unfolding(crate::specs::Refusals::refusal_next, crate::specs::Refusals::first))]
+    #[tactic(auto, using(crate::proofs::Passed::passing), unfolding(crate::specs::Refusals::refusal_next, crate::specs::Refusals::first))]
     pub fn check_next(self, held: Session) -> Result<(), Refusal>
         ensures { refusal_number result ≡ refusal_next (sequence_of held) self }
     {
-        self.check_shape()?;
+        self.check_shape()?; // these come before the session's
         if held.differs(self.session()) {
             return Err(Refusal::OtherThanSession);
         }
