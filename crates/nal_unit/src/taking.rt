@@ -1,7 +1,7 @@
 // Reading a unit's payload by the places of the slice that holds the unit (7.3.1). No payload is kept and no count is carried: a byte is an inserted one
 // exactly if it is 03 and the two bytes before it are 00, and a unit's header is not 0. Each function here looks at the stretch from the place p up to e,
 // the unit's end, and none at a byte before p - 2. What is public is a leaf for proved callers.
-ghost use Rattle.std.specs.Prelude.{◌≡◌, cond, ◌+◌, ◌-◌, ◌*◌, ◌≤◌, ◌<◌, eqb, length, drop, get_or, replicate};
+ghost use Rattle.std.specs.Prelude.{◌≡◌, cond, ◌+◌, ◌-◌, ◌*◌, ◌/◌, ◌≤◌, ◌<◌, eqb, length, drop, get_or, replicate};
 ghost use Rattle.lists.specs.Fill.{splice};
 ghost use Rattle.lists.specs.Part.{part};
 ghost use Rattle.nal_unit.specs.Unescape.{un};
@@ -276,87 +276,34 @@ fn take_marked(s: &[u8], p: usize, e: usize, n: usize, out: &mut [u8], at: usize
     take_slow(s, p, e, 2 * n, out, at)
 }
 
-// Takes a row of 8 bytes of the payload to the place `at` of the output, and answers a place behind them. Here and below the test looks at 16 bytes at a
-// time, one vector: at some behind a narrower row too, and at some of a wider one twice.
-fn take8(s: &[u8], p: usize, e: usize, out: &mut [u8], at: usize) -> usize
+// Takes a row of N bytes of the payload to the place `at` of the output, and answers a place behind them. The test looks at 16 bytes at a time, one vector: at
+// some behind a narrower row too, and at some of a wider one twice.
+fn take_fixed<const N: usize>(s: &[u8], p: usize, e: usize, out: &mut [u8], at: usize) -> usize
     requires le_p { (2 ≤ p) × (p ≤ e) × (e ≤ length s.now) }
-    requires in_bounds { 8 ≤ length (kept s.now p e) }
-    requires at_in_bounds { at + 8 ≤ length out.old }
-    ensures { Took s.now p e 8 out.old at out.new result }
+    requires width { (2 ≤ N) × (N ≤ 32) × (2 * (N / 2) ≡ N) }
+    requires in_bounds { N ≤ length (kept s.now p e) }
+    requires at_in_bounds { at + N ≤ length out.old }
+    ensures { Took s.now p e N out.old at out.new result }
 {
-    if e - p >= 16 {
-        if calm(s, p, 16) {
-            rows::copy_fixed::<8>(s, p, out, at);
-            return p + 8;
-        }
+    if (N >= 16 || e - p >= 16) && calm(s, p, 16) && (N <= 16 || calm(s, p + (N - 16), 16)) {
+        rows::copy_fixed::<N>(s, p, out, at);
+        return p + N;
     }
-    take_marked(s, p, e, 4, out, at)
+    take_marked(s, p, e, N / 2, out, at)
 }
 
-// Takes a row of 12 bytes of the payload to the place `at` of the output, and answers a place behind them.
-fn take12(s: &[u8], p: usize, e: usize, out: &mut [u8], at: usize) -> usize
-    requires le_p { (2 ≤ p) × (p ≤ e) × (e ≤ length s.now) }
-    requires in_bounds { 12 ≤ length (kept s.now p e) }
-    requires at_in_bounds { at + 12 ≤ length out.old }
-    ensures { Took s.now p e 12 out.old at out.new result }
-{
-    if e - p >= 16 {
-        if calm(s, p, 16) {
-            rows::copy_fixed::<12>(s, p, out, at);
-            return p + 12;
-        }
-    }
-    take_marked(s, p, e, 6, out, at)
-}
-
-// Takes a row of 16 bytes of the payload to the place `at` of the output, and answers a place behind them.
-fn take16(s: &[u8], p: usize, e: usize, out: &mut [u8], at: usize) -> usize
-    requires le_p { (2 ≤ p) × (p ≤ e) × (e ≤ length s.now) }
-    requires in_bounds { 16 ≤ length (kept s.now p e) }
-    requires at_in_bounds { at + 16 ≤ length out.old }
-    ensures { Took s.now p e 16 out.old at out.new result }
-{
-    if calm(s, p, 16) {
-        rows::copy_fixed::<16>(s, p, out, at);
-        return p + 16;
-    }
-    take_marked(s, p, e, 8, out, at)
-}
-
-// Takes a row of 24 bytes of the payload to the place `at` of the output, and answers a place behind them.
-fn take24(s: &[u8], p: usize, e: usize, out: &mut [u8], at: usize) -> usize
-    requires le_p { (2 ≤ p) × (p ≤ e) × (e ≤ length s.now) }
-    requires in_bounds { 24 ≤ length (kept s.now p e) }
-    requires at_in_bounds { at + 24 ≤ length out.old }
-    ensures { Took s.now p e 24 out.old at out.new result }
-{
-    if calm(s, p, 16) {
-        if calm(s, p + 8, 16) {
-            rows::copy_fixed::<24>(s, p, out, at);
-            return p + 24;
-        }
-    }
-    take_marked(s, p, e, 12, out, at)
-}
-
-// Takes n bytes of the payload to the place `at` of the output, the widths of a picture's rows by their own functions, and answers a place behind them.
+// Takes n bytes of the payload to the place `at` of the output, the widths of a picture's rows by code of their own, and answers a place behind them.
 pub fn take_row(s: &[u8], p: usize, e: usize, n: usize, out: &mut [u8], at: usize) -> usize
     requires le_p { (2 ≤ p) × (p ≤ e) × (e ≤ length s.now) }
     requires n_in_bounds { n ≤ length (kept s.now p e) }
     requires n_in_bounds_2 { at + n ≤ length out.old }
     ensures { Took s.now p e n out.old at out.new result }
 {
-    if n == 16 {
-        return take16(s, p, e, out, at);
+    match n {
+        8 => take_fixed::<8>(s, p, e, out, at),
+        12 => take_fixed::<12>(s, p, e, out, at),
+        16 => take_fixed::<16>(s, p, e, out, at),
+        24 => take_fixed::<24>(s, p, e, out, at),
+        _ => take_slow(s, p, e, n, out, at),
     }
-    if n == 8 {
-        return take8(s, p, e, out, at);
-    }
-    if n == 24 {
-        return take24(s, p, e, out, at);
-    }
-    if n == 12 {
-        return take12(s, p, e, out, at);
-    }
-    take_slow(s, p, e, n, out, at)
 }
