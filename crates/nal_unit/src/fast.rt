@@ -8,35 +8,21 @@ ghost use Rattle.nal_unit.specs.PutCode.{Put};
 
 use crate::{calm, put, rows};
 
-// Writes 64 zeros of payload behind one counted zero: 32 pairs, each with 03 before its second, after which one is counted again.
-fn put_zeros1(out: &mut [u8], at: usize) -> usize
-    requires at_value { counted out.old at ≡ 1 }
-    requires at_in_bounds { at + 96 ≤ length out.old }
-    ensures { Put out.old at (blanks 64) out.new result }
-{
-    let pairs =
-        b"\0\x03\0\0\x03\0\0\x03\0\0\x03\0\0\x03\0\0\x03\0\0\x03\0\0\x03\0\0\x03\0\0\x03\0\0\x03\0\0\x03\0\0\x03\0\0\x03\0\0\x03\0\0\x03\0\0\x03\0\0\x03\0\0\x03\0\0\x03\0\0\x03\0\0\x03\0\0\x03\0\0\x03\0\0\x03\0\0\x03\0\0\x03\0\0\x03\0\0\x03\0\0\x03\0\0\x03\0\0\x03\0";
-    let mut k = 0;
-    while k < 96 {
-        out[at + k] = pairs[k];
-        k += 1;
-    }
-    at + 96
-}
+// What 64 zeros of payload are written as behind one counted zero: 32 pairs, each with 03 before its second, after which one is counted again.
+const BEHIND_ONE: &[u8; 96] =
+    b"\0\x03\0\0\x03\0\0\x03\0\0\x03\0\0\x03\0\0\x03\0\0\x03\0\0\x03\0\0\x03\0\0\x03\0\0\x03\0\0\x03\0\0\x03\0\0\x03\0\0\x03\0\0\x03\0\0\x03\0\0\x03\0\0\x03\0\0\x03\0\0\x03\0\0\x03\0\0\x03\0\0\x03\0\0\x03\0\0\x03\0\0\x03\0\0\x03\0\0\x03\0\0\x03\0\0\x03\0\0\x03\0";
 
 // The same behind two counted zeros: each pair has 03 before its first.
-fn put_zeros2(out: &mut [u8], at: usize) -> usize
-    requires at_value { counted out.old at ≡ 2 }
+const BEHIND_TWO: &[u8; 96] =
+    b"\x03\0\0\x03\0\0\x03\0\0\x03\0\0\x03\0\0\x03\0\0\x03\0\0\x03\0\0\x03\0\0\x03\0\0\x03\0\0\x03\0\0\x03\0\0\x03\0\0\x03\0\0\x03\0\0\x03\0\0\x03\0\0\x03\0\0\x03\0\0\x03\0\0\x03\0\0\x03\0\0\x03\0\0\x03\0\0\x03\0\0\x03\0\0\x03\0\0\x03\0\0\x03\0\0\x03\0\0\x03\0\0";
+
+// Writes 64 zeros of payload as the pairs that they are behind the zeros counted.
+fn put_zeros(pairs: &[u8; 96], out: &mut [u8], at: usize) -> usize
+    requires pairs_value { pairs.now ≡ esc_from (counted out.old at) (blanks 64) }
     requires at_in_bounds { at + 96 ≤ length out.old }
     ensures { Put out.old at (blanks 64) out.new result }
 {
-    let pairs =
-        b"\x03\0\0\x03\0\0\x03\0\0\x03\0\0\x03\0\0\x03\0\0\x03\0\0\x03\0\0\x03\0\0\x03\0\0\x03\0\0\x03\0\0\x03\0\0\x03\0\0\x03\0\0\x03\0\0\x03\0\0\x03\0\0\x03\0\0\x03\0\0\x03\0\0\x03\0\0\x03\0\0\x03\0\0\x03\0\0\x03\0\0\x03\0\0\x03\0\0\x03\0\0\x03\0\0\x03\0\0\x03\0\0";
-    let mut k = 0;
-    while k < 96 {
-        out[at + k] = pairs[k];
-        k += 1;
-    }
+    rows::copy_fixed::<96>(pairs, 0, out, at);
     at + 96
 }
 
@@ -54,14 +40,10 @@ fn put64(s: &[u8], p: usize, out: &mut [u8], at: usize) -> usize
         return at + 64;
     }
     let z = calm::zeros_before(&*out, at);
-    if z > 0 {
-        if calm::void(s, p, 64) {
-            let one = z == 1;
-            if one {
-                return put_zeros1(out, at);
-            }
-            return put_zeros2(out, at);
-        }
+    if z > 0 && calm::void(s, p, 64) {
+        let one = z == 1;
+        let pairs = if one { BEHIND_ONE } else { BEHIND_TWO };
+        return put_zeros(pairs, out, at);
     }
     put::put_bytes(s, p, 64, out, at)
 }
