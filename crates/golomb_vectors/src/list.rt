@@ -1,187 +1,96 @@
 // A list of codes, a line for each: its kind, the number and its code, as `ue 25 000011010` and `se -12 000011001`.
-ghost use Rattle.std.specs.Prelude.{◌^◌, ◌<◌};
-
 use crate::code::{Number, judge};
-use crate::count::{Tally, counted, none};
 use std::io;
 use std::io::Read;
+use tally::Tally;
 
 // The length that a list on standard input stays below.
 const LIST: usize = 400000;
 
-// What the next byte of a line belongs to; Broken where a byte before it was none that a line has there.
-#[derive(Clone, Copy)]
-enum Part {
-    Kind,
-    Letter,
-    Gap,
-    Sign,
-    Digit,
-    Digits,
-    Code,
-    Broken,
-}
-
-// What is known of a line: its next part, whether its kind is signed, its number's sign and size, and its last space.
-#[derive(Clone, Copy)]
-struct Line {
-    part: Part,
-    signed: bool,
-    minus: bool,
-    size: u64,
-    space: usize,
-}
-
-// A line of which no byte was read.
-fn fresh() -> Line {
-    Line {
-        part: Part::Kind,
-        signed: false,
-        minus: false,
-        size: 0,
-        space: 0,
+// The number of a row of digits; nothing where it is none. The digits behind one that makes it larger than any u32 don't count.
+fn size(digits: &[u8]) -> Option<u64> {
+    if digits.is_empty() || !digits.iter().all(u8::is_ascii_digit) {
+        return None;
     }
+    Some(
+        digits.iter().fold(0, |size: u64, b| {
+            if u64::from(u32::MAX) < size {
+                size
+            } else {
+                10 * size + u64::from(b.wrapping_sub(b'0'))
+            }
+        }),
+    )
 }
 
-// The part behind `b`, where that has to be `wanted`.
-fn part_if(b: u8, wanted: u8, next: Part) -> Part {
-    if b == wanted {
-        return next;
-    }
-    Part::Broken
-}
-
-// The part behind a digit.
-fn part_digit(b: u8) -> Part {
-    if b < b'0' || b'9' < b {
-        return Part::Broken;
-    }
-    Part::Digits
-}
-
-// The part behind a byte.
-fn part_behind(part: Part, b: u8) -> Part {
-    match part {
-        Part::Kind => if b == b's' {
-            Part::Letter
-        } else {
-            part_if(b, b'u', Part::Letter)
-        },
-        Part::Letter => part_if(b, b'e', Part::Gap),
-        Part::Gap => part_if(b, b' ', Part::Sign),
-        Part::Sign => if b == b'-' {
-            Part::Digit
-        } else {
-            part_digit(b)
-        },
-        Part::Digit => part_digit(b),
-        Part::Digits => if b == b' ' { Part::Code } else { part_digit(b) },
-        Part::Code => if b == b'0' {
-            Part::Code
-        } else {
-            part_if(b, b'1', Part::Code)
-        },
-        Part::Broken => Part::Broken,
-    }
-}
-
-// The size with one digit more; one that no number has stays as it is.
-fn size_behind(size: u64, b: u8) -> u64 {
-    if 4294967295 < size {
-        return size;
-    }
-    if b < b'0' {
-        return size;
-    }
-    10 * size + (b - b'0') as u64
-}
-
-// The line behind the byte `b`, at `i`.
-fn line_behind(line: Line, b: u8, i: usize) -> Line {
-    let part = line.part;
-    let next = part_behind(part, b);
-    let size = line.size;
-    Line {
-        part: next,
-        signed: line.signed || b == b's',
-        minus: line.minus || b == b'-',
-        size: match next {
-            Part::Digits => size_behind(size, b),
-            _ => size,
-        },
-        space: if b == b' ' { i } else { line.space },
-    }
-}
-
-// The opposite of `n`.
-fn negated(n: u32) -> i32
-    requires { n < 2 ^ 31 }
-{
-    -(n as i32)
-}
-
-// The number of a line; for one that is out of range, a number that has no code.
-fn number_of(signed: bool, minus: bool, size: u64) -> Number {
-    if signed {
-        if 2147483647 < size {
-            return Number::Se(-2147483648);
-        }
-        if minus {
-            return Number::Se(negated(size as u32));
-        }
-        return Number::Se(size as i32);
-    }
+// The unsigned number of that sign and size; one without a code where it is out of range.
+fn unsigned(minus: bool, size: u64) -> Number {
     if minus {
-        return Number::Ue(4294967295);
+        return Number::Ue(u32::MAX);
     }
-    if 4294967295 < size {
-        return Number::Ue(4294967295);
-    }
-    Number::Ue(size as u32)
+    Number::Ue(u32::try_from(size).unwrap_or(u32::MAX))
 }
 
-// Judges the line that ends at `end`, its code at a place within the second byte; a malformed line is wrong.
-fn judge_line(t: Tally, text: &[u8], line: Line, end: usize) -> Tally {
-    let part = line.part;
-    let Part::Code = part else {
-        return counted(t, false);
+// The signed number of that sign and size; one without a code where it is out of range.
+fn signed(minus: bool, size: u64) -> Number {
+    Number::Se(match i32::try_from(size) {
+        Ok(x) => if minus { x.wrapping_neg() } else { x },
+        Err(_) => i32::MIN,
+    })
+}
+
+// What a line says: a number, and the digits of its code.
+#[derive(Clone, Copy)]
+struct Line<'a> {
+    x: Number,
+    size: u64,
+    code: &'a [u8],
+}
+
+// Reads a line; nothing where it is malformed.
+fn parse(line: &[u8]) -> Option<Line<'_>> {
+    let mut words = line.split(|b| *b == b' ');
+    let kind = words.next()?;
+    let number = words.next()?;
+    let code = words.next()?;
+    if words.next().is_some() || !code.iter().all(|b| matches!(b, b'0' | b'1')) {
+        return None;
+    }
+    let (minus, digits) = match number.strip_prefix(b"-") {
+        Some(digits) => (true, digits),
+        None => (false, number),
     };
-    let space = line.space;
-    if end <= space || text.len() < end {
-        return counted(t, false);
-    }
-    let x = number_of(line.signed, line.minus, line.size);
-    let place = 9 + (line.size % 7) as usize;
-    judge(t, place, x, &text[space + 1..end])
+    let size = size(digits)?;
+    let x = if kind == b"ue".as_slice() {
+        unsigned(minus, size)
+    } else if kind == b"se".as_slice() {
+        signed(minus, size)
+    } else {
+        return None;
+    };
+    Some(Line { x, size, code })
 }
 
-// Judges all lines of a text. What stands behind the last line end is malformed.
+// Judges all lines of a text, each code at a place within the second byte. A malformed line is wrong, and so is what stands behind the last line end.
 pub fn judge_text(text: &[u8]) -> Tally {
-    let mut t = none();
-    let mut line = fresh();
-    let mut i = 0;
-    while i < text.len() {
-        if text[i] == b'\n' {
-            t = judge_line(t, text, line, i);
-            line = fresh();
-        } else {
-            line = line_behind(line, text[i], i);
+    let mut tally = Tally::default();
+    for line in text.split_inclusive(|b| *b == b'\n') {
+        match line.strip_suffix(b"\n").and_then(parse) {
+            Some(line) => judge(&mut tally, 9 + (line.size % 7) as usize, line.x, line.code),
+            None => tally.count(false),
         }
-        i += 1;
     }
-    let part = line.part;
-    match part {
-        Part::Kind => t,
-        _ => counted(t, false),
-    }
+    tally
 }
 
-// Judges the list on standard input, of less than 400,000 bytes.
+// Judges the list on standard input; one that is too long is wrong.
 pub fn judge_input(rt: &(impl Input + Alloc)) -> io::Result<Tally> {
     let mut text = Vec::new(rt.alloc());
     rt.reader().take(LIST as u64).read_to_end(&mut text)?;
-    if text.len() == LIST {
-        return Ok(counted(none(), false));
+    if text.len() < LIST {
+        return Ok(judge_text(&text));
     }
-    Ok(judge_text(&text))
+    let mut tally = Tally::default();
+    tally.count(false);
+    Ok(tally)
 }

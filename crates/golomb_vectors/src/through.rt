@@ -2,18 +2,18 @@
 ghost use Rattle.std.specs.Prelude.{◌≡◌};
 ghost use Rattle.golomb.specs.Answers.{read_ue, read_se};
 
-use golomb::{SeRead, UeRead, bit_reader};
+use golomb::bit_reader::BitReader;
 
 // The unsigned code at `place`.
-pub fn ue(payload: &[u8], place: usize) -> UeRead
+pub fn ue(payload: &[u8], place: usize) -> Option<(u32, usize)>
     ensures { result ≡ read_ue payload.now place }
 {
-    bit_reader::ue(bit_reader::moved(bit_reader::new(payload), place))
+    BitReader::new(payload).moved(place).ue()
 }
 
 // The signed code at `place`.
-pub fn se(payload: &[u8], place: usize) -> SeRead
+pub fn se(payload: &[u8], place: usize) -> Option<(i32, usize)>
     ensures { result ≡ read_se payload.now place }
 {
-    bit_reader::se(bit_reader::moved(bit_reader::new(payload), place))
+    BitReader::new(payload).moved(place).se()
 }

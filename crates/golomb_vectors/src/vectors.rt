@@ -1,42 +1,16 @@
 // The vectors of golomb.rs, in the order of its tests.
-ghost use Rattle.std.specs.Prelude.{◌+◌, ◌*◌, ◌≤◌};
-
-use crate::count::{Tally, counted, none};
 use crate::list::judge_text;
-use golomb::CodeWritten;
-
-// How many binary digits `x` has, counted by doubling; 1 for 0.
-fn digits(x: u32) -> usize
-    ensures { (1 ≤ result) × (result ≤ 2 * x + 2) }
-{
-    let mut n = 1;
-    let mut power: u64 = 2;
-    while power <= x as u64 {
-        power *= 2;
-        n += 1;
-    }
-    n
-}
-
-// The length of the unsigned code of `x`, 0 where it is refused.
-fn code_length(x: u32) -> usize {
-    let mut buffer = [0u8; 16];
-    match golomb::write_ue(&mut buffer, 0, x) {
-        CodeWritten::Behind(n) => n,
-        CodeWritten::NoCode => 0,
-        CodeWritten::NoRoom => 0,
-    }
-}
+use tally::Tally;
 
 // test_num_bits, by the lengths of codes: that of x - 1 has 2 n - 1 bits where x has n digits.
 pub fn num_bits() -> Tally {
-    let mut t = none();
-    let mut x = 1;
-    while x < 100000 {
-        t = counted(t, code_length(x - 1) == 2 * digits(x) - 1);
-        x += 1;
+    let mut tally = Tally::default();
+    for x in 1..100000u32 {
+        let digits = x.ilog2() as usize + 1;
+        let mut buffer = [0u8; 16];
+        tally.count(golomb::write_ue(&mut buffer, 0, x - 1) == Ok(2 * digits - 1));
     }
-    t
+    tally
 }
 
 // test_exp_goloumb.
