@@ -15,32 +15,27 @@ use crate::Planes;
 use nal_unit::rows;
 use ycbcr_image::Session;
 
-// Copies a row of a block. Its width is one of four, for each of which there is a copy of its own, since only a copy of a fixed width is fast.
-fn copy_row(s: &[u8], p: usize, w: usize, out: &mut [u8], at: usize)
-    requires { (p + w ≤ length s.now) × (at + w ≤ length out.old) }
-    ensures { out.new ≡ splice out.old at (part s.now p w) }
+// Lays h rows of W bytes, the first from the place p of s and each `stride` behind the last, and answers the place behind them.
+fn copy_rows<const W: usize>(
+    s: &[u8],
+    p: usize,
+    stride: usize,
+    h: usize,
+    out: &mut [u8],
+    at: usize,
+) -> usize
+    requires w_in_bounds { (p + h * stride + W ≤ length s.now + stride) × (h * stride ≤ length s.now) }
+    requires w_in_bounds_2 { at + h * W ≤ length out.old }
+    ensures { Laid out.old at (cat (rows_of s.now stride p W) 0 h) out.new result }
 {
-    if w == 16 {
-        rows::copy16(s, p, out, at);
-        return;
+    for k in 0..h {
+        rows::copy_fixed::<W>(s, p + k * stride, out, at + k * W);
     }
-    if w == 8 {
-        rows::copy8(s, p, out, at);
-        return;
-    }
-    if w == 24 {
-        rows::copy24(s, p, out, at);
-        return;
-    }
-    if w == 12 {
-        rows::copy12(s, p, out, at);
-        return;
-    }
-    rows::copy(s, p, w, out, at);
+    at + h * W
 }
 
-// Lays h rows of w bytes, the first from the place p of s and each `stride` behind the last, and answers the place behind them.
-fn copy_rows(
+// The same of rows of any width. One loop for both was tried: where the width is a value, rows of 16 bytes take half as long again.
+fn copy_any_rows(
     s: &[u8],
     p: usize,
     stride: usize,
@@ -53,19 +48,13 @@ fn copy_rows(
     requires w_in_bounds_2 { at + h * w ≤ length out.old }
     ensures { Laid out.old at (cat (rows_of s.now stride p w) 0 h) out.new result }
 {
-    let mut q = p;
-    let mut a = at;
-    let mut k = 0;
-    while k < h {
-        copy_row(s, q, w, out, a);
-        q += stride;
-        a += w;
-        k += 1;
+    for k in 0..h {
+        rows::copy(s, p + k * stride, w, out, at + k * w);
     }
-    a
+    at + h * w
 }
 
-// The same for the widths that there are, each by itself: a loop over rows of a fixed width is fast.
+// The same again: for each width that a block has there is a loop of its own, since only rows of a width that is known where the code is compiled are fast.
 pub fn lay_rows(
     s: &[u8],
     p: usize,
@@ -79,19 +68,13 @@ pub fn lay_rows(
     requires w_in_bounds_2 { at + h * w ≤ length out.old }
     ensures { Laid out.old at (cat (rows_of s.now stride p w) 0 h) out.new result }
 {
-    if w == 16 {
-        return copy_rows(s, p, stride, 16, h, out, at);
+    match w {
+        8 => copy_rows::<8>(s, p, stride, h, out, at),
+        12 => copy_rows::<12>(s, p, stride, h, out, at),
+        16 => copy_rows::<16>(s, p, stride, h, out, at),
+        24 => copy_rows::<24>(s, p, stride, h, out, at),
+        _ => copy_any_rows(s, p, stride, w, h, out, at),
     }
-    if w == 8 {
-        return copy_rows(s, p, stride, 8, h, out, at);
-    }
-    if w == 24 {
-        return copy_rows(s, p, stride, 24, h, out, at);
-    }
-    if w == 12 {
-        return copy_rows(s, p, stride, 12, h, out, at);
-    }
-    copy_rows(s, p, stride, w, h, out, at)
 }
 
 // Lays the block of plane p, which lies in a, in macroblock row my and column mx.
