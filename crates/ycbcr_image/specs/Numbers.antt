@@ -2,6 +2,7 @@
 --     number            a refusal's number, which is that of its row of the table
 --     refusal_number    of a test's answer: 0 where nothing is refused
 --     named             the refusal of a number from 1 to 8
+--     number_low, number_high    there are 8 of them
 --     named-number, number-named    so each refusal has a number of its own, and each number from 1 to 8 a refusal
 -- Assumes nothing.
 use Rattle.std.specs.Prelude.{◌≡◌, refl, cond, ℕ, zero, suc, ◌≤◌, Result, Ok, Err, eqb}
@@ -22,6 +23,26 @@ number Rows = 8
 abbrev pub refusal_number : Result (Unit {0}) Refusal → ℕ
 refusal_number (Ok _) = 0
 refusal_number (Err r) = number r
+
+pub number_low : (r : Refusal) → 1 ≤ number r
+number_low Size = omega arith
+number_low Depths = omega arith
+number_low Colour12Width = omega arith
+number_low OddWidth = omega arith
+number_low OddHeight = omega arith
+number_low OtherThanSession = omega arith
+number_low Stride = omega arith
+number_low Rows = omega arith
+
+pub number_high : (r : Refusal) → number r ≤ 8
+number_high Size = omega arith
+number_high Depths = omega arith
+number_high Colour12Width = omega arith
+number_high OddWidth = omega arith
+number_high OddHeight = omega arith
+number_high OtherThanSession = omega arith
+number_high Stride = omega arith
+number_high Rows = omega arith
 
 -- no refusal has another number: there it is of no meaning which one stands here
 unfoldable pub named : ℕ → Refusal
