@@ -7,19 +7,21 @@
 --     Seeking, Sought      the search for the first fault at a place that it has reached, and what it finds; the inserted bytes on its way are seen too
 --     Scanned s from r     the unit at a place of a slice: where the next start code or the end is, where the unit stops, whether it has a fault (no calm place), from where on it is calm
 -- Assumes nothing.
-use Rattle.std.specs.Prelude.{◌≡◌, refl, List, [], ◌∷◌, ◌++◌, Bool, true, false, cond, ◌&&◌, ◌||◌, ℕ, zero, suc, ◌+◌, ◌-◌, ◌*◌, ◌/◌, ◌≤◌, ◌<◌, leb, ltb, eqb, length, take, drop, get_or, Option, Some, None, is_none, IfSome}
+use Rattle.std.specs.Prelude.{◌≡◌, refl, List, [], ◌∷◌, ◌++◌, Bool, true, false, not, cond, ◌&&◌, ◌||◌, ℕ, zero, suc, ◌+◌, ◌-◌, ◌*◌, ◌/◌, ◌≤◌, ◌<◌, leb, ltb, eqb, length, take, drop, get_or, Option, Some, None, is_none, IfSome}
 use Rattle.std.proofs.Common.{sym, ap, ◌∙◌, true≢false, add-zero, add_assoc, mod-eq_of_lt, arith, length-take, length-drop, drop_of_length-le, take-append-drop, length-take-le, take-take, take-add, drop-drop, get_or-take, get_or-drop, lt-ltb, eqb-true, eq-eqb, ne_eqb, le-leb, leb-true, leb-false}
 use Rattle.std.proofs.Math.Bool.{and_assoc, or-true, and-eq-true_iff}
 use Rattle.std.proofs.Math.Dec.{leb-suc-suc}
 use Rattle.std.specs.Int.Bits.{bit_or, bit_xor, bit_and}
 use Rattle.std.proofs.lemmas.Nat.Bits.{and_high}
-use Rattle.std.proofs.lemmas.Bool.{lt-leb}
+use Rattle.std.proofs.lemmas.Bool.{not-true, lt-leb}
 use Rattle.lists.specs.Part.{part, drop_step}
 use Rattle.lists.specs.Test.{either}
-use Rattle.lists.specs.Flag.{or-zero, xor-zero}
+use Rattle.lists.specs.Flag.{or-zero, xor-zero, every}
 use Rattle.nal_unit.specs.Units.{code-fault}
+use Rattle.nal_unit.specs.EscapeCode.{inserts_at}
+use Rattle.nal_unit.specs.CalmCode.{plain_at}
 use Rattle.nal_unit.specs.StartCode.{code, next, code_first, next_le, next_past, next_there}
-use Rattle.nal_unit.specs.Scan.{code_at, next_step, trim-zero, trim_last, fault_at}
+use Rattle.nal_unit.specs.Scan.{code_at, next_step, trim_none, trim-zero, trim_last, fault_at}
 use Rattle.nal_unit.specs.Unescape.{over3, fault_here, fault, fault-nil, fault_past}
 use Rattle.nal_unit.specs.Walk.{blank, trim, trimmed}
 use Rattle.nal_unit.specs.Kept.{ins, ins_at, ins_at_lem, ins_count, count_end, Flat, flat_none, flat_more, flat-join, flat-count}
@@ -76,18 +78,28 @@ fault-test a b c d m h e =
     ∙ ap (λ (p : Bool). eqb a 0 && (eqb b 0 && (p && eqb m 0))) (high_zero c h)
     ∙ ap (λ (p : Bool). eqb a 0 && (eqb b 0 && p)) (rw e (third c d))
 
+-- the same, where a Bool says that c is 03 and d 03 or less
+pub fault-bits : (a b c d : ℕ) (m : Bool) → c < 256 → m ≡ eqb c 3 && leb d 3 → (eqb (bit_or (bit_or a b) (bit_and c 252)) 0 && not m) ≡ fault_here (a ∷ b ∷ c ∷ d ∷ [])
+fault-bits a b c d m h e =
+    let x = bit_or (bit_or a b) (bit_and c 252) in
+    let p = eqb c 3 && leb d 3 in
+    rw e (ap (λ (q : Bool). eqb x 0 && q) (turned p) ∙ sym (or-zero x (cond p 1 0)) ∙ fault-test a b c d (cond p 1 0) h refl)
+  where
+    turned : (p : Bool) → not p ≡ eqb (cond p 1 0) 0
+    turned true = refl
+    turned false = refl
+
 -- where two bytes are zero and the third is 03 or less, a fault or an inserted byte may stand; elsewhere none does
-pub low_none : (s : List ℕ) (i : ℕ) → i + 3 ≤ length s → get_or s (i + 2) 0 < 256
-    → eqb (bit_or (bit_or (get_or s i 0) (get_or s (i + 1) 0)) (bit_and (get_or s (i + 2) 0) 252)) 0 ≡ false → (fault_here (drop i s) ≡ false) × (ins_at s (i + 2) ≡ false)
+low-three : (s : List ℕ) (i : ℕ) → i + 3 ≤ length s → (eqb (get_or s i 0) 0 && (eqb (get_or s (i + 1) 0) 0 && leb (get_or s (i + 2) 0) 3)) ≡ false
+    → (fault_here (drop i s) ≡ false) × (ins_at s (i + 2) ≡ false)
 unfolding ins
-low_none s i h b e =
+low-three s i h l =
     let x = get_or s i 0 in
     let y = get_or s (i + 1) 0 in
     let z = get_or s (i + 2) 0 in
     let w = get_or s (i + 3) 0 in
     let two : i + 2 - 2 ≡ i = omega arith in
     let one : i + 2 - 1 ≡ i + 1 = omega arith in
-    let l : (eqb x 0 && (eqb y 0 && leb z 3)) ≡ false = sym (or-three x y (bit_and z 252) ∙ ap (λ (p : Bool). eqb x 0 && (eqb y 0 && p)) (high_zero z b)) ∙ e in
     (fault_at s i h ∙ by (eqb x 0) (eqb y 0) (leb z 3) (leb z 2 || (eqb z 3 && leb 4 w)) (none z w) l, rw (ins_at_lem s (i + 2) (omega arith), two, one) (by (eqb x 0) (eqb y 0) (leb z 3) (eqb z 3) (other z) l))
   where
     none : (c d : ℕ) → leb c 3 ≡ false → (leb c 2 || (eqb c 3 && leb 4 d)) ≡ false
@@ -100,6 +112,15 @@ low_none s i h b e =
     by false q r k f e = refl
     by true false r k f e = refl
     by true true r k f e = f e
+
+-- the same by the bits of the bytes
+pub low_none : (s : List ℕ) (i : ℕ) → i + 3 ≤ length s → get_or s (i + 2) 0 < 256
+    → eqb (bit_or (bit_or (get_or s i 0) (get_or s (i + 1) 0)) (bit_and (get_or s (i + 2) 0) 252)) 0 ≡ false → (fault_here (drop i s) ≡ false) × (ins_at s (i + 2) ≡ false)
+low_none s i h b e =
+    let x = get_or s i 0 in
+    let y = get_or s (i + 1) 0 in
+    let z = get_or s (i + 2) 0 in
+    low-three s i h (sym (or-three x y (bit_and z 252) ∙ ap (λ (p : Bool). eqb x 0 && (eqb y 0 && p)) (high_zero z b)) ∙ e)
 
 -- The first fault
 
@@ -176,6 +197,22 @@ first_short s i l h = omega (arith, length-drop i s, few (drop i s) (omega (arit
     few (a ∷ b ∷ []) h = refl
     few (a ∷ b ∷ c ∷ t) h = absurd (omega arith)
 
+-- the next start code and the first fault some places on, at none of which one stands
+pub next_over : (s : List ℕ) (i j : ℕ) → i ≤ j → j ≤ length s → ((k : ℕ) → i ≤ k → k < j → code (drop k s) ≡ false) → i + next (drop i s) ≡ j + next (drop j s)
+next_over s i j h l f = go (j - i) i (omega arith) f
+  where
+    go : (n i : ℕ) → i + n ≡ j → ((k : ℕ) → i ≤ k → k < j → code (drop k s) ≡ false) → i + next (drop i s) ≡ j + next (drop j s)
+    go zero i e f = let q : i ≡ j = omega arith in rw q refl
+    go (suc n) i e f = next_step s i (omega arith) (f i (omega arith) (omega arith)) ∙ go n (i + 1) (omega arith) (λ k a b. f k (omega arith) b)
+
+pub first_over : (s : List ℕ) (i j : ℕ) → i ≤ j → j ≤ length s → ((k : ℕ) → i ≤ k → k < j → fault_here (drop k s) ≡ false)
+    → i + first_fault (drop i s) ≡ j + first_fault (drop j s)
+first_over s i j h l f = go (j - i) i (omega arith) f
+  where
+    go : (n i : ℕ) → i + n ≡ j → ((k : ℕ) → i ≤ k → k < j → fault_here (drop k s) ≡ false) → i + first_fault (drop i s) ≡ j + first_fault (drop j s)
+    go zero i e f = let q : i ≡ j = omega arith in rw q refl
+    go (suc n) i e f = first_step s i (omega arith) (f i (omega arith) (omega arith)) ∙ go n (i + 1) (omega arith) (λ k a b. f k (omega arith) b)
+
 -- the next start code, k places on, and one more where none stands
 pub next_on : (s : List ℕ) (i k : ℕ) → i + k < length s → code (drop (i + k) s) ≡ false → i + next (drop i s) ≡ i + k + next (drop (i + k) s)
     → i + next (drop i s) ≡ i + (k + 1) + next (drop (i + (k + 1)) s)
@@ -210,6 +247,23 @@ seek-keep {s} {from} {i} {c} g h f =
 pub seek-raise : {s : List ℕ} {from i c : ℕ} → Seeking s from i c → i + 3 ≤ length s → fault_here (drop i s) ≡ false → Seeking s from (i + 1) (i + 3)
 seek-raise {s} {from} {i} {c} g h f =
     record { within = omega arith; first = g.first ∙ first_step s i (omega arith) f; low = omega arith; flat = flat_none s (i + 3) (i + 1 + 2) (omega arith) }
+
+-- a byte that stands as it is in an escape is behind no fault's two zeros, and no inserted one
+pub plain_none : (s : List ℕ) (i : ℕ) → i + 3 ≤ length s → plain_at s (i + 2) ≡ true → (fault_here (drop i s) ≡ false) × (ins_at s (i + 2) ≡ false)
+unfolding plain_at
+plain_none s i h e =
+    low-three s i h (not-true (eqb (get_or s i 0) 0 && (eqb (get_or s (i + 1) 0) 0 && leb (get_or s (i + 2) 0) 3))
+    (rw (inserts_at s (i + 2) (i + 1) i (get_or s (i + 2) 0) refl refl (omega arith)) at e))
+
+-- some places on, where nothing stands
+pub seek-calm : {s : List ℕ} {from c : ℕ} (i n : ℕ) → Seeking s from i c → i + n + 2 ≤ length s → every (plain_at s) (i + 2) n ≡ true → Seeking s from (i + n) c
+unfolding every
+seek-calm i zero g h e = rw (add-zero i) g
+seek-calm {s} {from} {c} i (suc n) g h e =
+    let a = (and-eq-true_iff (plain_at s (i + 2)) (every (plain_at s) (i + 2 + 1) n)).0 e in
+    let p : i + 2 + 1 ≡ i + 1 + 2 = omega arith in
+    let q : i + 1 + n ≡ i + suc n = omega arith in
+    rw q at (seek-calm (i + 1) n (seek-keep g (omega arith) (plain_none s i (omega arith) a.0)) (omega arith) (rw p at a.1))
 
 -- the same by a count of places
 pub seek_next : {s : List ℕ} {from c : ℕ} (k : ℕ) → Seeking s from (from + k) c → from + k + 3 ≤ length s → (fault_here (drop (from + k) s) ≡ false) × (ins_at s (from + k + 2) ≡ false)
@@ -254,6 +308,51 @@ trim-stay s from n h l e =
     let p : from + k ≡ n - 1 = omega arith in
     let t : trim (take (k + 1) (drop from s)) ≡ take (k + 1) (drop from s) = trim_last (drop from s) k (omega (arith, length-drop from s)) (rw (get_or-drop from s k 0, p) e) in
     rw (q, t, length-take-le (k + 1) (drop from s) (omega (arith, length-drop from s))) (omega arith)
+
+-- the last that is not zero stays, and all behind it go
+pub trim_over : (s : List ℕ) (k n : ℕ) → k ≤ n → n ≤ length s → ((j : ℕ) → k ≤ j → j < n → get_or s j 0 ≡ 0) → trim (take n s) ≡ trim (take k s)
+trim_over s k n h l f = go (n - k) n (omega arith) l f
+  where
+    go : (m n : ℕ) → k + m ≡ n → n ≤ length s → ((j : ℕ) → k ≤ j → j < n → get_or s j 0 ≡ 0) → trim (take n s) ≡ trim (take k s)
+    go zero n e l f = let q : n ≡ k = omega arith in rw q refl
+    go (suc m) n e l f =
+        let q : n ≡ k + m + 1 = omega arith in
+        rw q (trim-zero s (k + m) (omega arith) (f (k + m) (omega arith) (omega arith)) ∙ go m (k + m) refl (omega arith) (λ j a b. f j a (omega arith)))
+
+pub trim_by : (s : List ℕ) (from end t : ℕ) (r : Option ℕ) → from ≤ end → end ≤ length s
+    → (r ≡ None → (k : ℕ) → k < length (take (end - from) (drop from s)) → get_or (take (end - from) (drop from s)) k 0 ≡ 0)
+    → IfSome r (λ k. (k < length (take (end - from) (drop from s))) × (0 < get_or (take (end - from) (drop from s)) k 0)
+    × ((j : ℕ) → k < j → j < length (take (end - from) (drop from s)) → get_or (take (end - from) (drop from s)) j 0 ≡ 0))
+    → (r ≡ None → t ≡ from) → ((k : ℕ) → r ≡ Some k → t ≡ from + k + 1) → t ≡ from + length (trim (take (end - from) (drop from s)))
+trim_by s from end t r h l none some at_none at_some = by r refl some
+  where
+    n : ℕ
+    n = end - from
+
+    u : List ℕ
+    u = drop from s
+
+    most : n ≤ length u
+    most = omega (arith, length-drop from s)
+
+    size : length (take n u) ≡ n
+    size = length-take-le n u most
+
+    same : (k : ℕ) → k < n → get_or u k 0 ≡ get_or (take n u) k 0
+    same k m = sym (get_or-take n u k 0 m)
+
+    by : (q : Option ℕ) → r ≡ q → IfSome q (λ k. (k < length (take n u)) × (0 < get_or (take n u) k 0) × ((j : ℕ) → k < j → j < length (take n u) → get_or (take n u) j 0 ≡ 0))
+        → t ≡ from + length (trim (take n u))
+    by None e f = omega (arith, at_none e, ap length (trim_over u 0 n (omega arith) most (λ k a b. same k b ∙ none e k (omega (arith, size))) ∙ trim_none u))
+    by (Some k) e f =
+        let i : k < n = omega (arith, size, f.0) in
+        omega (
+          arith,
+          at_some k e,
+          ap length (trim_over u (k + 1) n (omega arith) most (λ j a b. same j b ∙ f.2 j (omega arith) (omega (arith, size)))
+              ∙ trim_last u k (omega (arith, most)) (omega (arith, f.1, same k i))),
+          length-take-le (k + 1) u (omega (arith, most)),
+        )
 
 -- the first of them, and the others
 pub blank_front : (s : List ℕ) (i n : ℕ) → i < n → n ≤ length s → blank (take (n - i) (drop i s)) ≡ eqb (get_or s i 0) 0 && blank (take (n - (i + 1)) (drop (i + 1) s))
@@ -337,6 +436,21 @@ unfolding blank
 blank_at [] i e = refl
 blank_at (x ∷ l) zero e = eqb-true x 0 ((and-eq-true_iff (eqb x 0) (blank l)).0 e).0
 blank_at (x ∷ l) (suc i) e = blank_at l i ((and-eq-true_iff (eqb x 0) (blank l)).0 e).1
+
+-- and so is the list where each is
+blank_each : (l : List ℕ) → ((k : ℕ) → k < length l → get_or l k 0 ≡ 0) → blank l ≡ true
+unfolding blank
+blank_each [] f = refl
+blank_each (x ∷ l) f = rw (eq-eqb x 0 (f 0 (omega arith))) (blank_each l (λ k m. f (suc k) (omega arith)))
+
+-- so that a Bool which says whether each is says what `blank` does
+pub blank_by : (b : Bool) (l : List ℕ) → (b ≡ true → (k : ℕ) → k < length l → get_or l k 0 ≡ 0) → (b ≡ false → (k : ℕ) × (k < length l) × (0 < get_or l k 0)) → b ≡ blank l
+blank_by true l f g = sym (blank_each l (f refl))
+blank_by false l f g = let w = g refl in by (blank l) refl w.0 w.2
+  where
+    by : (c : Bool) → blank l ≡ c → (k : ℕ) → 0 < get_or l k 0 → false ≡ c
+    by true e k m = absurd (omega (arith, blank_at l k e))
+    by false e k m = refl
 
 -- a byte above 0 among the first n is not taken off
 trim-keeps : (s : List ℕ) (n j : ℕ) → j < n → n ≤ length s → 0 < get_or s j 0 → j < length (trim (take n s))

@@ -1,24 +1,17 @@
--- `nal_unit::scan::all_zero` meets its contract. The invariant: the bytes are all zero if those from the place reached on are. Assumes nothing.
-use Rattle.std.proofs.Common.{◌≡◌, refl, sym, ◌∙◌, ◌-◌, arith, get_or, eq-eqb, ne_eqb}
-use Rattle.nal_unit.specs.ScanCode.{blank_front}
+-- `nal_unit::scan::all_zero` meets its contract. Where the stretch ends before it begins, it is empty. Assumes nothing.
+use Rattle.std.proofs.Common.{rules, ◌≡◌, refl, ap, ◌∙◌, ◌-◌, take, drop, arith}
+use Rattle.lists.specs.Test.{either}
 use Rattle.nal_unit.specs.Walk.{blank}
+use Rattle.nal_unit.specs.ScanCode.{blank_by}
 use Rattle.nal_unit.proofs.scan.all_zero.Goals as goal
 
-pub returns-then-s-i-ne0 : goal.returns-then-s-i-ne0
-returns-then-s-i-ne0 c =
-    let a = c.args in
-    let e = blank_front a.s.now c.loop-i.i a.to c.loop-i-test.true c.requires in
-    sym (c.loop-i.invariant.1 ∙ e ∙ rw (ne_eqb (get_or a.s.now c.loop-i.i 0) 0 c.if-s-i-ne0.true) refl)
-
-pub loop-i-preserved : goal.loop-i-preserved
-loop-i-preserved c =
-    let a = c.args in
-    let e = blank_front a.s.now c.loop-i.i a.to c.loop-i-test.true c.requires in
-    (omega arith, c.loop-i.invariant.1 ∙ e ∙ rw (eq-eqb (get_or a.s.now c.loop-i.i 0) 0 (omega (arith, c.if-s-i-ne0.false))) refl)
-
 pub returns : goal.returns
-unfolding blank
 returns c =
     let a = c.args in
-    let z : a.to - c.loop-i.i ≡ 0 = omega arith in
-    sym (c.loop-i.invariant.1 ∙ rw z refl)
+    let s = a.s.now in
+    let m = c.min.result in
+    let same : take (a.to - m) (drop m s) ≡ take (a.to - a.from) (drop a.from s) =
+    either a.from a.to
+    (λ h. let e : m ≡ a.from = omega arith in rw e refl)
+    (λ h. let e : a.to - m ≡ 0 = omega arith in let f : a.to - a.from ≡ 0 = omega arith in rw (e, f) refl) in
+    blank_by c.all.result (take (a.to - m) (drop m s)) (search rules) (search rules) ∙ ap blank same

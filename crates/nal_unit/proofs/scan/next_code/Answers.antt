@@ -1,5 +1,5 @@
 -- `nal_unit::scan::next_code` meets its contract. The invariant: the next start code is that from the place reached on. Assumes nothing.
-use Rattle.std.proofs.Common.{sym, ◌∙◌, arith, drop, length-drop, rules}
+use Rattle.std.proofs.Common.{◌≡◌, ◌∙◌, ◌+◌, ◌*◌, arith, drop, length-drop}
 use Rattle.nal_unit.specs.StartCode.{next_le}
 use Rattle.nal_unit.proofs.scan.next_code.Goals as goal
 
@@ -8,11 +8,7 @@ returns-then-s-from c =
     let a = c.args in
     omega (arith, next_le (drop a.from a.s.now), length-drop a.from a.s.now)
 
-pub returns-then-code64-ne0 : goal.returns-then-code64-ne0
-returns-then-code64-ne0 c = c.next_plain.ensures ∙ sym c.loop-i.invariant.1
-
-pub loop-i-preserved : goal.loop-i-preserved
-loop-i-preserved c = (search rules, c.loop-i.invariant.1 ∙ c.code64.ensures (omega arith))
-
-pub returns : goal.returns
-returns c = c.next_plain-2.ensures ∙ sym c.loop-i.invariant.1
+pub loop-b-preserved : goal.loop-b-preserved
+loop-b-preserved c =
+    let q : c.args.from + 64 * (c.loop-b.b + 1) ≡ c.args.from + 64 * c.loop-b.b + 64 = omega arith in
+    rw q (c.loop-b.invariant ∙ c.code64.ensures c.if-code64.false)

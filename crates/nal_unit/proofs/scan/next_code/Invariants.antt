@@ -1,9 +1,6 @@
-use Rattle.std.proofs.Common.{◌≡◌, ◌+◌, ◌-◌, ◌≤◌, length, drop}
+use Rattle.std.proofs.Common.{◌≡◌, ◌+◌, ◌*◌, drop}
 use Rattle.nal_unit.specs.StartCode.{next}
 use Rattle.nal_unit.proofs.scan.next_code.Given as goal
 
-abbrev pub invariant-loop-i : goal.invariant-loop-i
-invariant-loop-i l = (l.i ≤ length l.s) × (l.from + next (drop l.from l.s) ≡ l.i + next (drop l.i l.s))
-
-abbrev pub decreases-loop-i : goal.decreases-loop-i
-decreases-loop-i l = length l.s - l.i
+abbrev pub invariant-loop-b : goal.invariant-loop-b
+invariant-loop-b l = l.from + next (drop l.from l.s) ≡ l.from + 64 * l.b + next (drop (l.from + 64 * l.b) l.s)

@@ -1,25 +1,10 @@
--- `nal_unit::scan::trim_end` meets its contract. The invariant: the bytes to the place reached, less their trailing zeros, are those to the end, less
--- theirs. Assumes nothing.
-use Rattle.std.proofs.Common.{◌≡◌, sym, ap, ◌∙◌, [], List, ℕ, ◌+◌, ◌-◌, arith, length, take, drop}
-use Rattle.nal_unit.specs.ScanCode.{trim_back, trim-stay}
-use Rattle.nal_unit.specs.Walk.{trim}
-use Rattle.nal_unit.specs.Scan.{trim_none}
+-- `nal_unit::scan::trim_end` meets its contract: the last byte that is not zero stays, and all behind it go. Assumes nothing.
+use Rattle.std.proofs.Common.{rules}
+use Rattle.nal_unit.specs.ScanCode.{trim_by}
 use Rattle.nal_unit.proofs.scan.trim_end.Goals as goal
-
-pub returns-then-s-stop-ne0 : goal.returns-then-s-stop-ne0
-returns-then-s-stop-ne0 c =
-    let a = c.args in
-    sym (ap (λ (t : List ℕ). a.from + length t) c.loop-stop.invariant.2
-    ∙ trim-stay a.s.now a.from c.loop-stop.stop c.loop-stop-test.true (omega (arith, c.requires)) (omega (arith, c.if-s-stop-ne0.true)))
-
-pub loop-stop-preserved : goal.loop-stop-preserved
-loop-stop-preserved c =
-    let a = c.args in
-    (omega arith, omega arith, c.loop-stop.invariant.2 ∙ trim_back a.s.now a.from c.loop-stop.stop c.loop-stop-test.true (omega (arith, c.requires)) (omega (arith, c.if-s-stop-ne0.false)))
 
 pub returns : goal.returns
 returns c =
     let a = c.args in
-    let z : c.loop-stop.stop - a.from ≡ 0 = omega arith in
-    let e : trim (take (c.loop-stop.stop - a.from) (drop a.from a.s.now)) ≡ [] = rw z (trim_none (drop a.from a.s.now)) in
-    omega (arith, ap length (c.loop-stop.invariant.2 ∙ e))
+    let f = c.last_nonzero.ensures in
+    trim_by a.s.now a.from a.end c.map_or.result c.last_nonzero.result c.requires.from_le_end c.requires.end_in_bounds f.none f.some (search rules) (search rules)
