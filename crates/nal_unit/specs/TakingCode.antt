@@ -8,16 +8,18 @@
 --     pair_first ..           the test of three bytes; pairs-are: bytes that are found to be pairs of zeros are kept as zeros
 --     zeros-found ..          the place behind such zeros; zeros-behind, zeros-are: what is passed stands behind p, and is zeros
 -- Assumes nothing.
-use Rattle.std.specs.Prelude.{◌≡◌, refl, Some, None, List, [], ◌∷◌, ◌++◌, Bool, true, false, cond, ◌&&◌, ℕ, zero, suc, ◌+◌, ◌-◌, ◌*◌, ◌/◌, ◌≤◌, ◌<◌, leb, eqb, length, take, drop, get_or, set, replicate}
-use Rattle.std.proofs.Common.{sym, ap, ◌∙◌, zero-add, add-zero, add_assoc, arith, length-append, length-drop, length-set, length-take-le, set-set, leb-true, eqb-true, le-leb, eq-eqb, ne_eqb}
+use lib.Pointwise.{pointwise}
+use Rattle.std.specs.Prelude.{◌≡◌, refl, Some, None, List, [], ◌∷◌, ◌++◌, Bool, true, false, cond, ◌&&◌, ℕ, zero, suc, ◌+◌, ◌-◌, ◌*◌, ◌/◌, ◌≤◌, ◌<◌, leb, eqb, length, take, drop, get_or, set, replicate, slice_range}
+use Rattle.std.proofs.Common.{sym, ap, ◌∙◌, zero-add, add-zero, add-one, add_assoc, arith, length-append, length-drop, length-set, length-take-le, set-set, leb-true, eqb-true, le-leb, eq-eqb, ne_eqb}
 use Rattle.std.proofs.Math.Bool.{and_assoc, and-true, and-false, and-eq-true_iff}
 use Rattle.std.specs.Int.Bits.{bit_or, bit_xor}
 use Rattle.std.proofs.lemmas.List.{length-replicate, replicate-append-replicate, set-get_or}
 use Rattle.std.proofs.Math.Seq.{drop-append-add}
 use Rattle.std.proofs.lemmas.Bool.{lt-leb}
 use Rattle.lists.specs.Fill.{splice, splice_none, splice-length}
+use Rattle.lists.specs.Part.{part, part_none, part-cons}
 use Rattle.lists.specs.Flag.{or-zero, xor-zero, every, Flag, flag-keep, flag-raise, flag_end}
-use Rattle.nal_unit.specs.Kept.{ins, ins_at, ins_at_lem, kept, ins_count, kept_more, kept-plain, kept_end, kept_append, kept-length, kept_some, count_step, count_end, count-append}
+use Rattle.nal_unit.specs.Kept.{ins, ins_at, ins_at_lem, kept, ins_count, kept_more, kept-plain, kept_end, kept_append, kept-length, kept_some, count_step, count_end, count-append, Flat, flat-count}
 use Rattle.nal_unit.specs.Taking.{Next, Passed, pass_none, Took, took_next, took_more, took_stretch, zero_pair, alike, zero_pairs, zeros_in, behind_zeros}
 
 -- The test of an inserted byte
@@ -164,6 +166,18 @@ calm-raise {s} {p} {e} {f} {q} g i h l t =
 
 pub calm_end : {s : List ℕ} {p e f q : ℕ} → Calming s p e f q → e ≤ q → eqb f 0 ≡ eqb (ins_count s p e) 0
 calm_end {s} {p} {e} {f} {q} g h = sym (and-true (eqb f 0)) ∙ rw (count_end s q e h) at g.same
+
+-- the test of n bytes is that of each
+pub calm_by : (b : Bool) (s : List ℕ) (p n : ℕ) → 1 ≤ p → p + n ≤ length s → (b ≡ true → (k : ℕ) → p ≤ k → k < p + n → ins_at s k ≡ false)
+    → (b ≡ false → (k : ℕ) × (p ≤ k) × (k < p + n) × (ins_at s k ≡ true)) → b ≡ eqb (ins_count s p (p + n)) 0
+calm_by true s p n i l h g =
+    let f : Flat s p (p + n) = record { none = h refl } in
+    sym (eq-eqb (ins_count s p (p + n)) 0 (flat-count f (p + n) (omega arith) l))
+calm_by false s p n i l h g = by (g refl)
+  where
+    by : ((k : ℕ) × (p ≤ k) × (k < p + n) × (ins_at s k ≡ true)) → false ≡ eqb (ins_count s p (p + n)) 0
+    by (k, a, b, t) =
+        sym (ne_eqb (ins_count s p (p + n)) 0 (λ z. omega (arith, count-append s p k (p + n) a (omega arith) l, rw t at (count_step s k (p + n) b l))))
 
 -- The bytes from p up to q were counted, and c of them are inserted ones.
 pub record Counting (s : List ℕ) (p e c q : ℕ) : Type 0 where
@@ -354,6 +368,23 @@ pairs-are s p n i h l t =
 pub pairs_end : (s : List ℕ) (p n : ℕ) {f k : ℕ} → zero_pair s p ≡ true → Flag (alike s) p (3 * (n - 1)) f k → 3 * (n - 1) ≤ k → eqb f 0 ≡ zero_pairs s p n
 unfolding zero_pairs
 pairs_end s p n t g h = rw t (flag_end g h)
+
+-- the same where the others are compared as a slice
+alike-part : (s : List ℕ) (p m : ℕ) → p + m + 3 ≤ length s → pointwise eqb (part s p m) (part s (p + 3) m) ≡ every (alike s) p m
+unfolding every alike
+alike-part s p zero h = rw (part_none s p, part_none s (p + 3)) refl
+alike-part s p (suc m) h =
+    let e : p + 3 + 1 ≡ p + 1 + 3 = omega arith in
+    rw (← add-one m, part-cons s p m (omega arith), part-cons s (p + 3) m (omega arith), e)
+    (ap (λ (b : Bool). eqb (get_or s p 0) (get_or s (p + 3) 0) && b) (alike-part s (p + 1) m (omega arith)))
+
+pub pairs-alike : (s : List ℕ) (p n m : ℕ) → m ≡ 3 * (n - 1) → p + m + 3 ≤ length s → zero_pair s p ≡ true
+    → pointwise eqb (slice_range s p (p + m)) (slice_range s (p + 3) (p + m + 3)) ≡ zero_pairs s p n
+unfolding part zero_pairs
+pairs-alike s p n m e h t =
+    let a : p + m - p ≡ m = omega arith in
+    let b : p + m + 3 - (p + 3) ≡ m = omega arith in
+    rw (a, b, t, ← e) (alike-part s p m h)
 
 pub pairs_not : (s : List ℕ) (p n : ℕ) → zero_pair s p ≡ false → false ≡ zero_pairs s p n
 unfolding zero_pairs

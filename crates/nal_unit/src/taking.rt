@@ -8,6 +8,7 @@ ghost use Rattle.nal_unit.specs.Unescape.{un};
 ghost use Rattle.nal_unit.specs.Kept.{ins_at, kept, ins_count};
 ghost use Rattle.nal_unit.specs.Taking.{Next, Passed, Took, zero_pair, zero_pairs, behind_zeros};
 
+use crate::calm::at_each;
 use crate::rows;
 
 // Whether the byte at the place p is an inserted one.
@@ -83,40 +84,19 @@ pub fn calm(s: &[u8], p: usize, n: usize) -> bool
     requires { (2 ≤ p) × (p + n ≤ length s.now) }
     ensures { result ≡ eqb (ins_count s.now p (p + n)) 0 }
 {
-    let mut f: u8 = 0;
-    let mut k = 0;
-    while k < n {
-        if inserted_at(s, p + k) {
-            f = 1;
-        }
-        k += 1;
-    }
-    f == 0
+    at_each(p, p + n, |q| !inserted_at(s, q))
 }
 
-// The count c, and one more where t is true.
-fn more(c: u8, t: bool) -> u8
-    requires { c < 255 }
-    ensures { result ≡ cond t 1 0 + c }
-{
-    if t {
-        return c + 1;
-    }
-    c
-}
-
-// How many of the n bytes from the place p on are inserted ones.
+// How many of the n bytes from the place p on are inserted ones. A count of one byte makes vector code of the loop.
 fn count_few(s: &[u8], p: usize, n: usize) -> usize
     requires { (2 ≤ p) × (n ≤ 255) × (p + n ≤ length s.now) }
     ensures { result ≡ ins_count s.now p (p + n) }
 {
     let mut c: u8 = 0;
-    let mut k = 0;
-    while k < n {
-        c = more(c, inserted_at(s, p + k));
-        k += 1;
+    for q in p..p + n {
+        c += u8::from(inserted_at(s, q));
     }
-    c as usize
+    usize::from(c)
 }
 
 // How many of the bytes from the place p up to e are inserted ones.
@@ -124,12 +104,12 @@ pub fn count_inserted(s: &[u8], p: usize, e: usize) -> usize
     requires { (2 ≤ p) × (p ≤ e) × (e ≤ length s.now) }
     ensures { result ≡ ins_count s.now p e }
 {
-    let mut c: usize = 0;
-    let mut q = p;
-    while e - q >= 224 {
-        c += count_few(s, q, 224);
-        q += 224;
+    let whole = (e - p) / 224;
+    let mut c = 0;
+    for i in 0..whole {
+        c += count_few(s, p + 224 * i, 224);
     }
+    let q = p + 224 * whole;
     c + count_few(s, q, e - q)
 }
 
@@ -149,10 +129,8 @@ pub fn payload_len_to(s: &[u8], o: usize, e: usize, c: usize) -> usize
     requires e_value { ins_count s.now c e ≡ 0 }
     ensures { result ≡ length (un (drop 1 (part s.now o (e - o)))) }
 {
-    if o < c {
-        if c < e {
-            return e - (o + 1) - count_inserted(s, o + 1, c);
-        }
+    if o < c && c < e {
+        return e - (o + 1) - count_inserted(s, o + 1, c);
     }
     payload_len(s, o, e)
 }
@@ -192,19 +170,8 @@ pub fn pairs(s: &[u8], p: usize, n: usize) -> bool
     requires { (2 ≤ p) × (1 ≤ n) × (p + 3 * n ≤ length s.now) }
     ensures { result ≡ zero_pairs s.now p n }
 {
-    if !pair(s, p) {
-        return false;
-    }
     let m = 3 * (n - 1);
-    let mut f: u8 = 0;
-    let mut k = 0;
-    while k < m {
-        if s[p + k] != s[p + k + 3] {
-            f = 1;
-        }
-        k += 1;
-    }
-    f == 0
+    pair(s, p) && s[p..p + m] == s[p + 3..p + m + 3]
 }
 
 // The place behind the payload's next n bytes, where these are zeros in such pairs.
@@ -253,11 +220,7 @@ pub fn write_zeros(out: &mut [u8], at: usize, n: usize)
     requires { at + n ≤ length out.old }
     ensures { out.new ≡ splice out.old at (replicate n 0) }
 {
-    let mut k = 0;
-    while k < n {
-        out[at + k] = 0;
-        k += 1;
-    }
+    out[at..at + n].fill(0);
 }
 
 // Takes 2 * n bytes of the payload to the place `at` of the output, where inserted bytes stand among them: zeros at once, others byte by byte.
@@ -267,11 +230,9 @@ fn take_marked(s: &[u8], p: usize, e: usize, n: usize, out: &mut [u8], at: usize
     requires n_in_bounds { at + 2 * n ≤ length out.old }
     ensures { Took s.now p e (2 * n) out.old at out.new result }
 {
-    if 3 * n <= e - p {
-        if pairs(s, p, n) {
-            write_zeros(out, at, 2 * n);
-            return p + 3 * n;
-        }
+    if 3 * n <= e - p && pairs(s, p, n) {
+        write_zeros(out, at, 2 * n);
+        return p + 3 * n;
     }
     take_slow(s, p, e, 2 * n, out, at)
 }

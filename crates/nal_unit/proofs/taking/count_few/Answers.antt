@@ -1,17 +1,21 @@
--- `nal_unit::taking::count_few` meets its contract: after k turns the inserted ones among k bytes are counted. Assumes nothing.
-use Rattle.std.proofs.Common.{◌+◌, add-zero, add_assoc, arith, rules}
+-- `nal_unit::taking::count_few` meets its contract: the inserted ones before q are counted. Assumes nothing.
+use mir.Val.{bool_byte}
+use Rattle.std.proofs.Common.{◌≡◌, ◌∙◌, ap, Bool, true, false, cond, ℕ, ◌+◌, arith}
 use Rattle.nal_unit.specs.TakingCode.{count_start, count_turn, count-done}
 use Rattle.nal_unit.proofs.taking.count_few.Goals as goal
 
-pub loop-k-init : goal.loop-k-init
-loop-k-init c =
-    let a = c.args in
-    (search rules, rw (add-zero a.p) (count_start a.s.now a.p (a.p + a.n)))
+one_more : (c : ℕ) (t : Bool) → c + bool_byte t ≡ cond t 1 0 + c
+one_more c true = omega arith
+one_more c false = omega arith
 
-pub loop-k-preserved : goal.loop-k-preserved
-loop-k-preserved c =
-    let a = c.args in
-    (search rules, rw (← add_assoc a.p c.loop-k.k 1) (count_turn c.loop-k.invariant.1 (omega arith) (omega arith) (omega arith) c.inserted_at.ensures c.more-c.ensures))
+pub loop-q-init : goal.loop-q-init
+loop-q-init c = let a = c.args in count_start a.s.now a.p (a.p + a.n)
+
+pub loop-q-preserved : goal.loop-q-preserved
+loop-q-preserved c =
+    let l = c.loop-q in
+    let e = ap (λ (k : ℕ). l.c + k) c.from-c.ensures ∙ one_more l.c c.inserted_at.result in
+    count_turn l.invariant (omega arith) (omega arith) (omega arith) c.inserted_at.ensures e
 
 pub returns : goal.returns
-returns c = count-done c.loop-k.invariant.1 (omega arith)
+returns c = c.from.ensures ∙ count-done c.loop-q.invariant (omega arith)
