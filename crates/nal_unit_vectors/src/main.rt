@@ -2,41 +2,32 @@
 // tells apart, and inputs that are no escape, and prints what was compared.
 #![tactic(auto)]
 
-mod count;
 mod faults;
 mod list;
 mod pair;
 mod small;
 
-use count::{Tally, none, tell};
 use std::io;
-
-// The inputs that are no escape.
-fn run_faults(rt: &impl Print, t: Tally) -> io::Result<Tally> {
-    let t = tell(rt, t, b"faults refused with 12", faults::alone())?;
-    let t = tell(
-        rt,
-        t,
-        b"faults at each place of 200 bytes refused with 12",
-        faults::around(),
-    )?;
-    tell(rt, t, b"00 00 03 at the end unescaped", faults::at_end())
-}
+use tally::Tally;
 
 fn main(rt: HostRuntime) -> io::Result<()> {
-    let t = tell(
+    let mut all = Tally::default();
+    all.tell(
         &rt,
-        none(),
-        b"the escapes of the list",
-        list::judge_input(&rt)?,
+        "the escapes of the list",
+        list::judge_input(&rt, rt.alloc())?,
     )?;
-    let t = tell(
+    all.tell(
         &rt,
-        t,
-        b"all payloads of six bytes 00, 01, 02, 03, 04 and FF",
+        "all payloads of six bytes 00, 01, 02, 03, 04 and FF",
         small::judge_all(),
     )?;
-    let t = run_faults(&rt, t)?;
-    tell(&rt, none(), b"all", t)?;
-    Ok(())
+    all.tell(&rt, "faults refused with 12", faults::alone())?;
+    all.tell(
+        &rt,
+        "faults at each place of 200 bytes refused with 12",
+        faults::around(),
+    )?;
+    all.tell(&rt, "00 00 03 at the end unescaped", faults::at_end())?;
+    all.print(&rt, "all")
 }

@@ -1,6 +1,7 @@
--- `small::escape` ends: the bytes left of the payload are the measure.
-use Rattle.std.proofs.Common.{◌-◌, length}
+-- `small::escape` has the room: no byte has more than one before it that is inserted.
+use Rattle.std.proofs.Common.{◌*◌, ◌≤◌}
+use Rattle.arrayvec.specs.ArrayVec.{array_vec_len}
 use Rattle.nal_unit_vectors.proofs.small.escape.Given as goal
 
-abbrev pub decreases-loop-i : goal.decreases-loop-i
-decreases-loop-i l = length l.payload - l.i
+abbrev pub invariant-loop-b : goal.invariant-loop-b
+invariant-loop-b l = array_vec_len l.out ≤ 2 * l.b-index

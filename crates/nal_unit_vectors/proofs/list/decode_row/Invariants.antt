@@ -1,6 +1,0 @@
--- `list::decode_row` ends: the bytes left are the measure.
-use Rattle.std.proofs.Common.{◌-◌}
-use Rattle.nal_unit_vectors.proofs.list.decode_row.Given as goal
-
-abbrev pub decreases-loop-k : goal.decreases-loop-k
-decreases-loop-k l = l.n - l.k
