@@ -1,9 +1,9 @@
 -- Laws of the two calls that their code cites.
 --     sets, picture_bytes     the bytes of the parameter sets' units, and of a picture's
 --     start_is, next_is       what the calls write is made of them
---     lack n room             0 where n bytes have room, else n
+--     lack n room             None where n bytes have room, else n
 -- Assumes nothing.
-use Rattle.std.specs.Prelude.{◌≡◌, refl, List, [], ◌∷◌, ◌++◌, true, cond, ℕ, ◌+◌, ◌≤◌, ◌<◌, leb, length}
+use Rattle.std.specs.Prelude.{◌≡◌, refl, List, [], ◌∷◌, ◌++◌, true, cond, ℕ, ◌+◌, ◌≤◌, ◌<◌, Option, Some, None, Ok, Err, leb, length}
 use Rattle.std.proofs.Common.{sym, ap, ◌∙◌, append_assoc, append-nil, zero-add, arith, length-append, le-leb, eq-eqb, ne_eqb}
 use Rattle.std.proofs.lemmas.Bool.{lt-leb}
 use Rattle.lists.specs.Fill.{splice, splice-length, splice_front}
@@ -30,10 +30,11 @@ use Rattle.ycbcr_image.proofs.Passed.{passed, passed_next}
 use Rattle.slice.specs.Picture.{Lends, picture_of}
 use Rattle.slice.specs.Macroblocks.{Ready}
 use Rattle.slice.specs.Laid.{Laid, laid_more}
-use Rattle.encoder.specs.declared.Encoded.TheVariants.{Written, NoRoom, Refused}
+use Rattle.ycbcr_image.specs.Numbers.{named}
+use Rattle.encoder.specs.declared.EncodeError.TheVariants.{NoRoom, Refused}
 use Rattle.encoder.specs.Shot.{Shot, image_of, lends_of, sequence_in, shot_whole}
 use Rattle.encoder.specs.Units.{sps_header, pps_header, picture_header, sps_unit, pps_unit, picture_unit, start_bytes, next_bytes}
-use Rattle.encoder.specs.Answers.{answer_of, out_of, start_of, start_out, next_of, next_out}
+use Rattle.encoder.specs.Answers.{wrote, answer_of, out_of, start_of, start_out, next_of, next_out}
 
 unfoldable pub sets : Sequence → List ℕ
 sets q = framed sps_header (sps_payload base_level q) ++ framed pps_header pps_payload
@@ -62,25 +63,25 @@ pub next_is : (q : Sequence) (L : Lends) → next_bytes q L ≡ picture_bytes q 
 unfolding next_bytes picture_bytes picture_unit
 next_is q L = joined_last picture_header (picture_of q L)
 
-unfoldable pub lack : ℕ → ℕ → ℕ
-lack n room = cond (leb n room) 0 n
+unfoldable pub lack : ℕ → ℕ → Option ℕ
+lack n room = cond (leb n room) None (Some n)
 
-pub lack_none : (n room : ℕ) → n ≤ room → 0 ≡ lack n room
+pub lack_none : (n room : ℕ) → n ≤ room → None ≡ lack n room
 unfolding lack
 lack_none n room h = rw (le-leb n room h) refl
 
-pub lack_some : (n room : ℕ) → room < n → n ≡ lack n room
+pub lack_some : (n room : ℕ) → room < n → Some n ≡ lack n room
 unfolding lack
 lack_some n room h = rw (lt-leb n room h) refl
 
 -- where nothing is lacking there is room, and where something is there is none
-pub has_room : (n room m : ℕ) → m ≡ lack n room → m ≡ 0 → n ≤ room
+pub has_room : (n room : ℕ) (m : Option ℕ) → m ≡ lack n room → m ≡ None → n ≤ room
 has_room n room m e z =
-    either n room (λ h. h) (λ h. let f : n ≡ 0 = lack_some n room h ∙ (sym e ∙ z) in omega arith)
+    either n room (λ h. h) (λ h. let f : Some n ≡ None = lack_some n room h ∙ (sym e ∙ z) in cc)
 
-no_room : (n room m : ℕ) → m ≡ lack n room → (m ≡ 0 → ⊥) → (room < n) × (m ≡ n)
-no_room n room m e z =
-    either n room (λ h. absurd (z (e ∙ sym (lack_none n room h)))) (λ h. (h, e ∙ sym (lack_some n room h)))
+no_room : (n room m : ℕ) → Some m ≡ lack n room → (room < n) × (m ≡ n)
+no_room n room m e =
+    either n room (λ h. let f : Some m ≡ None = e ∙ sym (lack_none n room h) in cc) (λ h. let f : Some m ≡ Some n = e ∙ sym (lack_some n room h) in (h, cc))
 
 -- A picture p that passes 1 to 8, with its numbers i and its session s as the code has them.
 pub record Taken (p : Shot) (i : YCbCrImage) (s : Session) : Type 0 where
@@ -176,17 +177,17 @@ laid_picture q L g = laid-framed g
 
 -- ---- the answers
 
-pub refused-answer : (r : ℕ) (s : Session) (w d : List ℕ) → (r ≡ 0 → ⊥) → (Refused r ≡ answer_of r s w (length d)) × (d ≡ out_of r w d)
+pub refused-answer : (r : ℕ) (s : Session) (w d : List ℕ) → (r ≡ 0 → ⊥) → (Err (Refused (named r)) ≡ answer_of r s w (length d)) × (d ≡ out_of r w d)
 unfolding answer_of out_of
 refused-answer r s w d h = (rw (ne_eqb r 0 h) refl, rw (ne_eqb r 0 h) refl)
 
-pub lacking_answer : (r m : ℕ) (s : Session) (w d : List ℕ) → r ≡ 0 → m ≡ lack (length w) (length d) → (m ≡ 0 → ⊥) → (NoRoom m ≡ answer_of r s w (length d)) × (d ≡ out_of r w d)
+pub lacking_answer : (r m : ℕ) (s : Session) (w d : List ℕ) → r ≡ 0 → Some m ≡ lack (length w) (length d) → (Err (NoRoom m) ≡ answer_of r s w (length d)) × (d ≡ out_of r w d)
 unfolding answer_of out_of
-lacking_answer r m s w d z e h =
-    let n = no_room (length w) (length d) m e h in
+lacking_answer r m s w d z e =
+    let n = no_room (length w) (length d) m e in
     (rw (eq-eqb r 0 z, lt-leb (length w) (length d) n.0, n.1) refl, rw (eq-eqb r 0 z, lt-leb (length w) (length d) n.0) refl)
 
-pub written-answer : (r n : ℕ) (s : Session) (w d : List ℕ) {d' : List ℕ} → r ≡ 0 → length w ≤ length d → Laid d 0 w d' n → (Written s n ≡ answer_of r s w (length d)) × (d' ≡ out_of r w d)
+pub written-answer : (r n : ℕ) (s : Session) (w d : List ℕ) {d' : List ℕ} → r ≡ 0 → length w ≤ length d → Laid d 0 w d' n → (wrote s n ≡ answer_of r s w (length d)) × (d' ≡ out_of r w d)
 unfolding answer_of out_of
 written-answer r n s w d z h g =
     let e : n ≡ length w = g.place ∙ zero-add (length w) in
@@ -194,7 +195,7 @@ written-answer r n s w d z h g =
 
 -- ---- the start call
 
-pub start_refused : (p : Shot) {i : YCbCrImage} (r : ℕ) (d : List ℕ) → i ≡ image_of p → r ≡ refusal_of i → (r ≡ 0 → ⊥) → (Refused r ≡ start_of p d) × (d ≡ start_out p d)
+pub start_refused : (p : Shot) {i : YCbCrImage} (r : ℕ) (d : List ℕ) → i ≡ image_of p → r ≡ refusal_of i → (r ≡ 0 → ⊥) → (Err (Refused (named r)) ≡ start_of p d) × (d ≡ start_out p d)
 unfolding start_of start_out
 start_refused p r d e f h = let g : r ≡ refusal_of (image_of p) = f ∙ ap refusal_of e in rw (← g) (refused-answer r _ _ d h)
 
@@ -207,27 +208,27 @@ start_size : {p : Shot} {i : YCbCrImage} {s : Session} → Taken p i s
 start_size {p} {s = s} t = sym (length-append (sets (sequence_of s)) (picture_bytes (sequence_of s) (lends_of p))) ∙ ap length (start_bytes_lem t)
 
 pub start_lacking : {p : Shot} {i : YCbCrImage} {s : Session} (r b m : ℕ) (d : List ℕ) → Taken p i s → r ≡ refusal_of i → r ≡ 0 → b ≡ length (sets (sequence_of s))
-    → m ≡ lack (b + length (picture_bytes (sequence_of s) (lends_of p))) (length d) → (m ≡ 0 → ⊥) → (NoRoom m ≡ start_of p d) × (d ≡ start_out p d)
+    → Some m ≡ lack (b + length (picture_bytes (sequence_of s) (lends_of p))) (length d) → (Err (NoRoom m) ≡ start_of p d) × (d ≡ start_out p d)
 unfolding start_of start_out
-start_lacking {p} {i} {s} r b m d t f z l e h =
+start_lacking {p} {i} {s} r b m d t f z l e =
     let n : b + length (picture_bytes (sequence_of s) (lends_of p)) ≡ length (start_bytes (sequence_in p) (lends_of p)) = rw l (start_size t) in
     let g : r ≡ refusal_of (image_of p) = f ∙ ap refusal_of t.image in
-    rw (← g) (lacking_answer r m _ _ d z (e ∙ ap (λ (k : ℕ). lack k (length d)) n) h)
+    rw (← g) (lacking_answer r m _ _ d z (e ∙ ap (λ (k : ℕ). lack k (length d)) n))
 
 pub start_written : {p : Shot} {i : YCbCrImage} {s : Session} (r : ℕ) {d d1 : List ℕ} {a1 : ℕ} {d2 : List ℕ} {a2 : ℕ} → Taken p i s → r ≡ refusal_of i → r ≡ 0
     → length (sets (sequence_of s)) + length (picture_bytes (sequence_of s) (lends_of p)) ≤ length d
-    → Laid d 0 (sets (sequence_of s)) d1 a1 → Laid d1 a1 (picture_bytes (sequence_of s) (lends_of p)) d2 a2 → (Written s a2 ≡ start_of p d) × (d2 ≡ start_out p d)
+    → Laid d 0 (sets (sequence_of s)) d1 a1 → Laid d1 a1 (picture_bytes (sequence_of s) (lends_of p)) d2 a2 → (wrote s a2 ≡ start_of p d) × (d2 ≡ start_out p d)
 unfolding start_of start_out
 start_written {p} {i} {s} r {d} {a2 = a2} t f z h j k =
     let w = laid_more (picture_bytes (sequence_of s) (lends_of p)) (omega arith) j k in
     let g : r ≡ refusal_of (image_of p) = f ∙ ap refusal_of t.image in
     let a = written-answer r a2 (session_of (image_of p)) (start_bytes (sequence_in p) (lends_of p)) d z (rw (start_size t) at h) (rw (start_bytes_lem t) at w) in
-    rw (← g) (ap (λ (x : Session). Written x a2) (own t) ∙ a.0, a.1)
+    rw (← g) (ap (λ (x : Session). wrote x a2) (own t) ∙ a.0, a.1)
 
 -- ---- the next call
 
 pub next_refused : (held : Session) (p : Shot) {i : YCbCrImage} (r : ℕ) (d : List ℕ) → i ≡ image_of p → r ≡ refusal_next (sequence_of held) i → (r ≡ 0 → ⊥)
-    → (Refused r ≡ next_of held p d) × (d ≡ next_out held p d)
+    → (Err (Refused (named r)) ≡ next_of held p d) × (d ≡ next_out held p d)
 unfolding next_of next_out
 next_refused held p r d e f h =
     let g : r ≡ refusal_next (sequence_of held) (image_of p) = f ∙ ap (λ (j : YCbCrImage). refusal_next (sequence_of held) j) e in
@@ -237,16 +238,16 @@ next_bytes_lem : {p : Shot} {i : YCbCrImage} {s : Session} → Taken p i s → p
 next_bytes_lem {p} t = rw (own t) (sym (next_is (sequence_in p) (lends_of p)))
 
 pub next_lacking : (held : Session) {p : Shot} {i : YCbCrImage} {s : Session} (r m : ℕ) (d : List ℕ) → Taken p i s → r ≡ refusal_next (sequence_of held) i → r ≡ 0
-    → m ≡ lack (0 + length (picture_bytes (sequence_of s) (lends_of p))) (length d) → (m ≡ 0 → ⊥) → (NoRoom m ≡ next_of held p d) × (d ≡ next_out held p d)
+    → Some m ≡ lack (0 + length (picture_bytes (sequence_of s) (lends_of p))) (length d) → (Err (NoRoom m) ≡ next_of held p d) × (d ≡ next_out held p d)
 unfolding next_of next_out
-next_lacking held {p} {i} {s} r m d t f z e h =
+next_lacking held {p} {i} {s} r m d t f z e =
     let n : 0 + length (picture_bytes (sequence_of s) (lends_of p)) ≡ length (next_bytes (sequence_in p) (lends_of p)) = zero-add _ ∙ ap length (next_bytes_lem t) in
     let g : r ≡ refusal_next (sequence_of held) (image_of p) = f ∙ ap (λ (j : YCbCrImage). refusal_next (sequence_of held) j) t.image in
-    rw (← g) (lacking_answer r m _ _ d z (e ∙ ap (λ (k : ℕ). lack k (length d)) n) h)
+    rw (← g) (lacking_answer r m _ _ d z (e ∙ ap (λ (k : ℕ). lack k (length d)) n))
 
 pub next_written : (held : Session) {p : Shot} {i : YCbCrImage} {s : Session} (r : ℕ) {d d1 : List ℕ} {a1 : ℕ} → Taken p i s → r ≡ refusal_next (sequence_of held) i → r ≡ 0
     → 0 + length (picture_bytes (sequence_of s) (lends_of p)) ≤ length d → Laid d 0 (picture_bytes (sequence_of s) (lends_of p)) d1 a1
-    → (Written held a1 ≡ next_of held p d) × (d1 ≡ next_out held p d)
+    → (wrote held a1 ≡ next_of held p d) × (d1 ≡ next_out held p d)
 unfolding next_of next_out
 next_written held {p} {i} {s} r {d} {a1 = a1} t f z h k =
     let g : r ≡ refusal_next (sequence_of held) (image_of p) = f ∙ ap (λ (j : YCbCrImage). refusal_next (sequence_of held) j) t.image in

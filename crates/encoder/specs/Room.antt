@@ -5,7 +5,7 @@
 --     room_enough                  what a call writes has no more
 --     Roomed, room_start, room_next     so a call with that room is not refused with 9, and it is 0 exactly where the call is refused with 1 to 5
 -- Assumes nothing.
-use Rattle.std.specs.Prelude.{◌≡◌, refl, List, Bool, true, false, cond, not, ℕ, zero, suc, ◌+◌, ◌/◌, ◌≤◌, eqb, leb, length}
+use Rattle.std.specs.Prelude.{◌≡◌, refl, List, Bool, true, false, cond, not, ℕ, zero, suc, ◌+◌, ◌/◌, ◌≤◌, Err, eqb, leb, length}
 use Rattle.std.proofs.Common.{sym, ap, ◌∙◌, arith, length-append, le-leb, ne_eqb}
 use Rattle.nal_unit.specs.Escape.{esc_most}
 use Rattle.parameter_sets.specs.Pps.{pps_payload, pps_is}
@@ -18,10 +18,11 @@ use Rattle.ycbcr_image.proofs.Passed.{passed, passed_next}
 use Rattle.ycbcr_image.specs.Shape.{of_shape, Shaped, shaped, shaped_next}
 use Rattle.slice.specs.Picture.{Lends, picture_of, picture_length, picture_length_lem, length_most}
 use Rattle.slice.specs.Macroblocks.{Ready}
-use Rattle.encoder.specs.declared.Encoded.TheVariants.{Written, NoRoom}
+use Rattle.ycbcr_image.specs.Numbers.{number-named}
+use Rattle.encoder.specs.declared.EncodeError.TheVariants.{NoRoom}
 use Rattle.encoder.specs.Shot.{Shot, image_of, lends_of, sequence_in, shot_whole}
 use Rattle.encoder.specs.Units.{start_bytes, next_bytes}
-use Rattle.encoder.specs.Answers.{number_of, answer_of, start_of, next_of}
+use Rattle.encoder.specs.Answers.{wrote, number_of, answer_of, start_of, next_of}
 use Rattle.encoder.specs.Code.{sets, picture_bytes, start_is, next_is, sets-length, sps_few, picture_size}
 
 abbrev pub sets_most : ℕ
@@ -74,19 +75,19 @@ room_enough s {L} h r =
     rw (start_is q L, next_is q L, length-append (sets q) (picture_bytes q L), ← room_some q h) (omega (arith, sets-within s h, picture_within r))
 
 -- the number of an answer where there is room, of a call that 1 to 8 refuse with r, 0 for none, and that would write w; and with any room
-with_room : (r : ℕ) (s : Session) (w : List ℕ) (n : ℕ) → (r ≡ 0 → length w ≤ n) → number_of (answer_of r s w n) ≡ r
+with_room : (r : ℕ) (s : Session) (w : List ℕ) (n : ℕ) → r ≤ 8 → (r ≡ 0 → length w ≤ n) → number_of (answer_of r s w n) ≡ r
 unfolding answer_of
-with_room zero s w n h = rw (le-leb (length w) n (h refl)) refl
-with_room (suc r) s w n h = rw (ne_eqb (suc r) 0 (λ e. omega arith)) refl
+with_room zero s w n l h = rw (le-leb (length w) n (h refl)) refl
+with_room (suc r) s w n l h = rw (ne_eqb (suc r) 0 (λ e. omega arith)) (number-named (suc r) (omega arith) l)
 
 any_room : (r : ℕ) (s : Session) (w : List ℕ) (n : ℕ) → r ≤ 8 → (number_of (answer_of r s w n) ≤ 9) × (of_shape (number_of (answer_of r s w n)) ≡ of_shape r)
 unfolding answer_of
 any_room zero s w n l = go (leb (length w) n)
   where
-    go : (b : Bool) → (number_of (cond b (Written s (length w)) (NoRoom (length w))) ≤ 9) × (of_shape (number_of (cond b (Written s (length w)) (NoRoom (length w)))) ≡ of_shape 0)
+    go : (b : Bool) → (number_of (cond b (wrote s (length w)) (Err (NoRoom (length w)))) ≤ 9) × (of_shape (number_of (cond b (wrote s (length w)) (Err (NoRoom (length w))))) ≡ of_shape 0)
     go true = (omega arith, refl)
     go false = (omega arith, refl)
-any_room (suc r) s w n l = rw (ne_eqb (suc r) 0 (λ e. omega arith)) (omega arith, refl)
+any_room (suc r) s w n l = rw (ne_eqb (suc r) 0 (λ e. omega arith), number-named (suc r) (omega arith) l) (omega arith, refl)
 
 -- the number n that a call with the picture p and the output d answers: not 9 with that room; and of planes of one depth 1 to 5 exactly where the room is 0
 pub record Roomed (p : Shot) (d : List ℕ) (n : ℕ) : Type 0 where
@@ -98,7 +99,7 @@ roomed : (p : Shot) (d : List ℕ) (r : ℕ) (s : Session) (w : List ℕ) → Sh
 roomed p d r s w g h =
     let a = any_room r s w (length d) g.most in
     record {
-      enough = λ l e. omega (arith, g.most, with_room r s w (length d) (λ z. omega (arith, h z)));
+      enough = λ l e. omega (arith, g.most, with_room r s w (length d) g.most (λ z. omega (arith, h z)));
       none = λ e. a.1 ∙ (g.shape e ∙ sym (room_tested (sequence_in p)));
       most = a.0;
     }

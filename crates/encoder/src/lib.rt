@@ -7,74 +7,72 @@ ghost use Rattle.ycbcr_image.specs.Sizes.{sequence_of};
 ghost use Rattle.ycbcr_image.specs.Refusals.{accepted};
 ghost use Rattle.ycbcr_image.specs.Accepted.{Fine};
 ghost use Rattle.slice.specs.Laid.{Laid};
-ghost use Rattle.slice.specs.Macroblocks.{lends, Ready};
-ghost use Rattle.encoder.specs.Shot.{shot, image_of};
+ghost use Rattle.slice.specs.Macroblocks.{lends_in, Ready};
+ghost use Rattle.encoder.specs.declared.EncodeError.TheVariants.{Refused};
+ghost use Rattle.encoder.specs.Shot.{lent, plane_of, shot, image_of};
 ghost use Rattle.encoder.specs.Answers.{start_of, start_out, next_of, next_out};
 ghost use Rattle.encoder.specs.Code.{sets, picture_bytes, lack};
 ghost use Rattle.encoder.specs.Room.{sets_most, picture_most, room_of};
 
 use nal_unit::{count, fast, unit};
-use slice::Strides;
-use ycbcr_image::{BitDepth, DataPlane, Kind, Session, YCbCrImage};
+use slice::{Planes, Strides};
+use ycbcr_image::{BitDepth, DataPlane, Kind, Refusal, Session, YCbCrImage};
 
 // The most that the units of both parameter sets have.
 const SETS_MOST: usize = 64;
 
 // The bits of a sample in each lent plane.
-#[derive(Clone, Copy)]
+#[derive(Clone, Copy, Debug, PartialEq, Eq)]
 pub struct Depths {
     pub y: BitDepth,
     pub cb: BitDepth,
     pub cr: BitDepth,
 }
 
-// The answer of a call: the session that it leaves and the length written; that the output is too short (9), and the length needed; or the
-// refusal, 1 to 8.
-#[derive(Clone, Copy)]
-pub enum Encoded {
-    Written(Session, usize),
+// What a call did: the session that it leaves, and the length written.
+#[derive(Clone, Copy, Debug, PartialEq, Eq)]
+pub struct Written {
+    pub session: Session,
+    pub length: usize,
+}
+
+// Why a call writes nothing: the output is too short (9), and the length needed; or the refusal.
+#[derive(Clone, Copy, Debug, PartialEq, Eq)]
+pub enum EncodeError {
     NoRoom(usize),
-    Refused(u32),
+    Refused(Refusal),
+}
+
+impl From<Refusal> for EncodeError {
+    ghost from_gives = { λ r e. e ≡ Refused r };
+
+    fn from(r: Refusal) -> EncodeError {
+        EncodeError::Refused(r)
+    }
+}
+
+// The numbers of a lent plane.
+fn plane_of(bytes: &[u8], stride: usize, depth: BitDepth) -> DataPlane
+    ensures { result ≡ plane_of (lent bytes.now stride depth) }
+{
+    DataPlane {
+        len: bytes.len(),
+        stride,
+        depth,
+    }
 }
 
 // The numbers of a picture, by which it is accepted or refused.
-fn image_of(
-    width: u32,
-    height: u32,
-    kind: Kind,
-    y: &[u8],
-    cb: &[u8],
-    cr: &[u8],
-    strides: Strides,
-    depths: Depths,
-) -> YCbCrImage
-    ensures { result ≡ image_of (shot width height kind y.now cb.now cr.now strides depths) }
+fn image_of(width: u32, height: u32, kind: Kind, planes: Planes, depths: Depths) -> YCbCrImage
+    ensures { let p = planes.entry in result ≡ image_of (shot width height kind p.y.now p.cb.now p.cr.now p.strides depths) }
 {
-    let y_depth = depths.y;
-    let y_plane = DataPlane {
-        len: y.len(),
-        stride: strides.y,
-        depth: y_depth,
-    };
-    let cb_depth = depths.cb;
-    let cb_plane = DataPlane {
-        len: cb.len(),
-        stride: strides.cb,
-        depth: cb_depth,
-    };
-    let cr_depth = depths.cr;
-    let cr_plane = DataPlane {
-        len: cr.len(),
-        stride: strides.cr,
-        depth: cr_depth,
-    };
     YCbCrImage {
-        width: width,
-        height: height,
-        kind: kind,
-        y: y_plane,
-        cb: cb_plane,
-        cr: cr_plane,
+        width,
+        height,
+        kind,
+        y: plane_of(planes.y, planes.strides.y, depths.y),
+        cb: plane_of(planes.cb, planes.strides.cb, depths.cb),
+        cr: plane_of(planes.cr, planes.strides.cr, depths.cr),
     }
 }
 
@@ -85,8 +83,7 @@ fn sets_len(s: Session) -> usize
 {
     let sps = parameter_sets::sps(s, 10);
     let pps = parameter_sets::pps();
-    let sps_bytes = sps.bytes;
-    let a = count::count_slice(&sps_bytes[..], 0, sps.len, 0);
+    let a = count::count_slice(&sps.bytes[..], 0, sps.len, 0);
     let b = count::count_slice(&pps[..], 0, 3, 0);
     10 + a.n + b.n
 }
@@ -99,21 +96,22 @@ fn put_sets(s: Session, out: &mut [u8]) -> usize
 {
     let sps = parameter_sets::sps(s, 10);
     let pps = parameter_sets::pps();
-    let sps_bytes = sps.bytes;
     let a = unit::open_unit(out, 0, 0x67);
-    let b = fast::put_slice(&sps_bytes[..], 0, sps.len, out, a);
+    let b = fast::put_slice(&sps.bytes[..], 0, sps.len, out, a);
     unit::put_unit(0x68, &pps[..], out, b)
 }
 
 // The length of a picture's unit.
-fn picture_len(y: &[u8], cb: &[u8], cr: &[u8], strides: Strides, s: Session) -> usize
-    requires { Ready (sequence_of s) (lends y.now cb.now cr.now strides) }
-    ensures { result ≡ length (picture_bytes (sequence_of s) (lends y.now cb.now cr.now strides)) }
+#[tactic(auto, using(crate::specs::Code::picture_as, crate::specs::Room::picture_few))]
+fn picture_len(planes: Planes, s: Session) -> usize
+    requires { Ready (sequence_of s) (lends_in planes) }
+    ensures { result ≡ length (picture_bytes (sequence_of s) (lends_in planes.entry)) }
 {
-    5 + slice::count::escaped_len(y, cb, cr, strides, s)
+    5 + slice::count::escaped_len(planes, s)
 }
 
 // The most that it can be: an escape has at most half as many bytes again as its payload.
+#[tactic(auto, using(slice::specs::Picture::length_most), unfolding(crate::specs::Room::picture_most))]
 fn picture_most(s: Session) -> usize
     requires { Fine (sequence_of s) }
     ensures { result ≡ picture_most (sequence_of s) }
@@ -123,58 +121,44 @@ fn picture_most(s: Session) -> usize
 }
 
 // A length of the output with which no call is refused with 9, whatever the samples, and no picture is counted first (`lacking`); 0 for a size that no call
-// accepts.
+// accepts. (A number and no Option: C's reelpony_room answers it, and `room_of` says it.)
+#[tactic(auto, using(ycbcr_image::proofs::Accepted::fine, crate::specs::Room::most_few), unfolding(crate::specs::Room::room_of))]
 pub fn room(s: Session) -> usize
     ensures { result ≡ room_of (sequence_of s) }
 {
-    if !ycbcr_image::size_accepted(s) {
+    if !s.is_accepted() {
         return 0;
     }
     SETS_MOST + picture_most(s)
 }
 
-// What the output lacks where `before` bytes and a picture's unit are to be written: 0 where there is room, else the length of all. Where there is room
-// for the most that the unit can be nothing is counted.
-fn lacking(
-    y: &[u8],
-    cb: &[u8],
-    cr: &[u8],
-    strides: Strides,
-    s: Session,
-    before: usize,
-    room: usize,
-) -> usize
-    requires ready { Ready (sequence_of s) (lends y.now cb.now cr.now strides) }
+// The length that is needed where `before` bytes and a picture's unit are to be written; None where there is room. Where there is room for the most that the
+// unit can be nothing is counted.
+#[tactic(auto, using(crate::specs::Room::most_few, crate::specs::Room::picture_within, crate::specs::Room::picture_few), unfolding(crate::specs::Code::lack))]
+fn lacking(planes: Planes, s: Session, before: usize, room: usize) -> Option<usize>
+    requires ready { Ready (sequence_of s) (lends_in planes) }
     requires before_le_sets_most { before ≤ sets_most }
-    ensures { result ≡ lack (before + length (picture_bytes (sequence_of s) (lends y.now cb.now cr.now strides))) room }
+    ensures { result ≡ lack (before + length (picture_bytes (sequence_of s) (lends_in planes.entry))) room }
 {
     let most = before + picture_most(s);
     if most <= room {
-        return 0;
+        return None;
     }
-    let need = before + picture_len(y, cb, cr, strides, s);
+    let need = before + picture_len(planes, s);
     if need <= room {
-        return 0;
+        return None;
     }
-    need
+    Some(need)
 }
 
 // Writes a picture's unit at the place `at`, and answers the place behind it.
-fn put_picture(
-    y: &[u8],
-    cb: &[u8],
-    cr: &[u8],
-    strides: Strides,
-    s: Session,
-    out: &mut [u8],
-    at: usize,
-) -> usize
-    requires ready { Ready (sequence_of s) (lends y.now cb.now cr.now strides) }
-    requires strides_in_bounds { at + length (picture_bytes (sequence_of s) (lends y.now cb.now cr.now strides)) ≤ length out.old }
-    ensures { Laid out.old at (picture_bytes (sequence_of s) (lends y.now cb.now cr.now strides)) out.new result }
+fn put_picture(planes: Planes, s: Session, out: &mut [u8], at: usize) -> usize
+    requires ready { Ready (sequence_of s) (lends_in planes) }
+    requires strides_in_bounds { at + length (picture_bytes (sequence_of s) (lends_in planes)) ≤ length out.old }
+    ensures { Laid out.old at (picture_bytes (sequence_of s) (lends_in planes.entry)) out.new result }
 {
     let a = unit::open_unit(out, at, 0x25);
-    slice::write::put_picture(y, cb, cr, strides, s, out, a)
+    slice::write::put_picture(planes, s, out, a)
 }
 
 // The start call: writes the parameter sets and the first picture, and begins a session.
@@ -188,24 +172,21 @@ pub fn start(
     strides: Strides,
     depths: Depths,
     out: &mut [u8],
-) -> Encoded
+) -> Result<Written, EncodeError>
     ensures value { result ≡ start_of (shot width height kind y.now cb.now cr.now strides depths) out.old }
     ensures out_after { out.new ≡ start_out (shot width height kind y.now cb.now cr.now strides depths) out.old }
 {
-    let image = image_of(width, height, kind, y, cb, cr, strides, depths);
-    let refused = ycbcr_image::check_start(image);
-    if refused != 0 {
-        return Encoded::Refused(refused);
+    let planes = Planes { y, cb, cr, strides };
+    let image = image_of(width, height, kind, planes, depths);
+    image.check_start()?;
+    let session = image.session();
+    let before = sets_len(session);
+    if let Some(need) = lacking(planes, session, before, out.len()) {
+        return Err(EncodeError::NoRoom(need));
     }
-    let s = ycbcr_image::session_of(image);
-    let before = sets_len(s);
-    let need = lacking(y, cb, cr, strides, s, before, out.len());
-    if need != 0 {
-        return Encoded::NoRoom(need);
-    }
-    let at = put_sets(s, out);
-    let end = put_picture(y, cb, cr, strides, s, out, at);
-    Encoded::Written(s, end)
+    let at = put_sets(session, out);
+    let length = put_picture(planes, session, out, at);
+    Ok(Written { session, length })
 }
 
 // The next call: writes one more picture in the session held.
@@ -220,20 +201,20 @@ pub fn next(
     strides: Strides,
     depths: Depths,
     out: &mut [u8],
-) -> Encoded
+) -> Result<Written, EncodeError>
     ensures value { result ≡ next_of held (shot width height kind y.now cb.now cr.now strides depths) out.old }
     ensures out_after { out.new ≡ next_out held (shot width height kind y.now cb.now cr.now strides depths) out.old }
 {
-    let image = image_of(width, height, kind, y, cb, cr, strides, depths);
-    let refused = ycbcr_image::check_next(held, image);
-    if refused != 0 {
-        return Encoded::Refused(refused);
+    let planes = Planes { y, cb, cr, strides };
+    let image = image_of(width, height, kind, planes, depths);
+    image.check_next(held)?;
+    let s = image.session();
+    if let Some(need) = lacking(planes, s, 0, out.len()) {
+        return Err(EncodeError::NoRoom(need));
     }
-    let s = ycbcr_image::session_of(image);
-    let need = lacking(y, cb, cr, strides, s, 0, out.len());
-    if need != 0 {
-        return Encoded::NoRoom(need);
-    }
-    let end = put_picture(y, cb, cr, strides, s, out, 0);
-    Encoded::Written(held, end)
+    let length = put_picture(planes, s, out, 0);
+    Ok(Written {
+        session: held,
+        length,
+    })
 }

@@ -1,12 +1,8 @@
 -- `encoder::sets_len` meets its contract: both payloads are counted where they are held. Assumes nothing.
 use Rattle.std.proofs.Common.{arith}
 use Rattle.ycbcr_image.specs.Sizes.{sequence_of}
-use Rattle.parameter_sets.specs.Answers.{holds_room}
 use Rattle.encoder.specs.Code.{sets-length, sps-counted, sps_few, pps_counted}
 use Rattle.encoder.proofs.sets_len.Goals as goal
-
-pub count_slice-a-requires : goal.count_slice-a-requires
-count_slice-a-requires c = record { n_in_bounds = omega (arith, holds_room _ _ c.sps-sps.ensures); z_bound = omega arith }
 
 pub overflow_add-result : goal.overflow_add-result
 overflow_add-result c =
