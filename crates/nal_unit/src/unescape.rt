@@ -55,10 +55,8 @@ fn put_plain(s: &[u8], p: usize, e: usize, out: &mut [u8], a: usize) -> usize
     ensures { Unescapes s.now p e out.old a out.new result }
 {
     let mut b = a;
-    let mut q = p;
-    while q < e {
+    for q in p..e {
         b = put_byte(s, q, out, b);
-        q += 1;
     }
     b
 }
@@ -86,13 +84,12 @@ fn put_rest(s: &[u8], p: usize, out: &mut [u8], a: usize) -> usize
     requires s_in_bounds { a + length (kept s.now p (length s.now)) ≤ length out.old }
     ensures { Unescapes s.now p (length s.now) out.old a out.new result }
 {
+    let blocks = (s.len() - p) / 64;
     let mut b = a;
-    let mut q = p;
-    while 64 <= s.len() - q {
-        b = put64(s, q, out, b);
-        q += 64;
+    for k in 0..blocks {
+        b = put64(s, p + 64 * k, out, b);
     }
-    put_plain(s, q, s.len(), out, b)
+    put_plain(s, p + 64 * blocks, s.len(), out, b)
 }
 
 // Writes the payload of `s` from the first byte of `out` on, which has room for it, and answers its length.
