@@ -5,11 +5,12 @@
 -- Assumes nothing.
 use Rattle.std.specs.Prelude.{◌≡◌, refl, List, ◌++◌, ℕ, ◌-◌, ◌≤◌, length, take, drop, replicate}
 use Rattle.std.proofs.Common.{sym, ap, ◌∙◌, arith, length-append, take-append-drop}
+use Rattle.std.specs.Prelude as Prelude
+use Rattle.std.specs.Prelude.{Some, None}
 use Rattle.std.proofs.Math.Option.{Option, none, some}
+use Rattle.ycbcr_image.specs.declared.Session.{Session}
 use Rattle.ycbcr_image.specs.Sizes.{Sequence, sequence_of, session_one}
 use Rattle.parameter_sets.specs.declared.Payload.{Payload}
-use Rattle.parameter_sets.specs.declared.SpsRead.{SpsRead}
-use Rattle.parameter_sets.specs.declared.SpsRead.TheVariants.{Sps, NotForm}
 
 -- the first bytes are p, and those behind them zeros
 pub record Holds (r : Payload) (p : List ℕ) : Type 0 where
@@ -34,23 +35,23 @@ holds_same r s p a b =
     e
 
 -- what a sequence parameter set that was read says
-abbrev pub sps_read : SpsRead → Option Sequence
-sps_read (Sps s) = some (sequence_of s)
-sps_read NotForm = none
+abbrev pub sps_read : Prelude.Option Session → Option Sequence
+sps_read (Some s) = some (sequence_of s)
+sps_read None = none
 
 -- its number
-abbrev pub sps_number : SpsRead → ℕ
-sps_number (Sps s) = 0
-sps_number NotForm = 14
+abbrev pub sps_number : Prelude.Option Session → ℕ
+sps_number (Some s) = 0
+sps_number None = 14
 
 -- 14 is given exactly where none was read
-pub sps-refused : (a : SpsRead) (o : Option Sequence) → sps_read a ≡ o → (sps_number a ≡ 14 → o ≡ none) × (o ≡ none → sps_number a ≡ 14)
-sps-refused (Sps s) o e = (λ z. absurd (omega arith), λ n. let w : some (sequence_of s) ≡ none = e ∙ n in let z : ◌≡◌ {A = ℕ} 0 1 = cc in absurd (omega arith))
-sps-refused NotForm o e = (λ z. sym e, λ n. refl)
+pub sps-refused : (a : Prelude.Option Session) (o : Option Sequence) → sps_read a ≡ o → (sps_number a ≡ 14 → o ≡ none) × (o ≡ none → sps_number a ≡ 14)
+sps-refused (Some s) o e = (λ z. absurd (omega arith), λ n. let w : some (sequence_of s) ≡ none = e ∙ n in let z : ◌≡◌ {A = ℕ} 0 1 = cc in absurd (omega arith))
+sps-refused None o e = (λ z. sym e, λ n. refl)
 
 -- one answer says one thing
-pub sps-read_same : (a b : SpsRead) → sps_read a ≡ sps_read b → a ≡ b
-sps-read_same (Sps s) (Sps t) e = let z : sequence_of s ≡ sequence_of t = cc in ap Sps (session_one s t z)
-sps-read_same (Sps s) NotForm e = cc
-sps-read_same NotForm (Sps t) e = cc
-sps-read_same NotForm NotForm e = refl
+pub sps-read_same : (a b : Prelude.Option Session) → sps_read a ≡ sps_read b → a ≡ b
+sps-read_same (Some s) (Some t) e = let z : sequence_of s ≡ sequence_of t = cc in ap Some (session_one s t z)
+sps-read_same (Some s) None e = cc
+sps-read_same None (Some t) e = cc
+sps-read_same None None e = refl

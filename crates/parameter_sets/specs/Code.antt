@@ -17,8 +17,8 @@ use Rattle.bits.specs.Pack.{packed, padding, packed-length, bits-packed, bits_sa
 use Rattle.golomb.specs.Code.{digits_in, num_bits, ue, ue-long}
 use Rattle.golomb.specs.Answers.{read_ue}
 use Rattle.golomb.specs.Laws.{ue_only}
-use Rattle.golomb.specs.declared.UeRead.{UeRead}
-use Rattle.golomb.specs.declared.UeRead.TheVariants.{Number, NoCode}
+use Rattle.std.specs.Prelude as Prelude
+use Rattle.std.specs.Prelude.{Some, None}
 use Rattle.ycbcr_image.specs.declared.BitDepth.{BitDepth}
 use Rattle.ycbcr_image.specs.declared.BitDepth.TheVariants.{Depth8, Depth12}
 use Rattle.ycbcr_image.specs.Form.{Form, form_of, depth_of, mono, sub_width_c, sub_height_c, crop_unit_x, crop_unit_y}
@@ -117,13 +117,9 @@ unit-y f e = rw e (go (mono f) (eqb f.chroma 1))
     go false true = omega arith
     go false false = omega arith
 
--- what the code's cropping says of a size
-pub record Cropping (q : Sequence) (r : FrameCropping) : Type 0 where
-  pub present : r.present ≡ cropped q
-  pub left : r.left ≡ 0
-  pub right : r.right ≡ crop_right q
-  pub top : r.top ≡ 0
-  pub bottom : r.bottom ≡ crop_bottom q
+-- the code's cropping of a size
+unfoldable pub cropping_of : Sequence → Prelude.Option FrameCropping
+cropping_of q = cond (cropped q) (Some (record { left = 0; right = crop_right q; top = 0; bottom = crop_bottom q })) None
 
 -- ---- pieces written one behind the other
 
@@ -247,20 +243,16 @@ pub record SizesIn (p : List ℕ) (r : SizeCodes) : Type 0 where
   pub behind : r.behind ≡ sizes_end p
 
 -- and of cropping
-pub record CroppingIn (p : List ℕ) (r : FrameCropping) : Type 0 where
-  pub present : r.present ≡ crop_in p
-  pub left : r.left ≡ 0
-  pub right : r.right ≡ right_in p
-  pub top : r.top ≡ 0
-  pub bottom : r.bottom ≡ bottom_in p
+unfoldable pub cropping_in : List ℕ → Prelude.Option FrameCropping
+cropping_in p = cond (crop_in p) (Some (record { left = 0; right = right_in p; top = 0; bottom = bottom_in p })) None
 
 -- a code ends in the payload
 pub behind_most : (p : List ℕ) (at : ℕ) → behind p at ≤ 8 * length p
 behind_most p at = go (read_ue p at) refl
   where
-    go : (r : UeRead) → read_ue p at ≡ r → behind p at ≤ 8 * length p
-    go (Number x q) e = rw e (omega (arith, (ue_only p at x q e).1.inside, count-length p))
-    go NoCode e = rw e (omega arith)
+    go : (r : Prelude.Option (ℕ × ℕ)) → read_ue p at ≡ r → behind p at ≤ 8 * length p
+    go (Some (x, q)) e = rw e (omega (arith, (ue_only p at x q e).1.inside, count-length p))
+    go None e = rw e (omega arith)
 
 pub sizes_most : (p : List ℕ) → sizes_end p ≤ 8 * length p
 unfolding sizes_end

@@ -4,7 +4,7 @@
 --     read_sps level p        that, where p is the payload of a sequence parameter set of an accepted size; else none
 --     sps-sound, sps_whole    so p is read as q exactly if q is accepted and p is its payload
 -- Assumes nothing.
-use Rattle.std.specs.Prelude.{◌≡◌, Bool, cond, ◌&&◌, eqb, take, get_or}
+use Rattle.std.specs.Prelude.{◌≡◌, Some, Bool, cond, ◌&&◌, eqb, take, get_or}
 use Rattle.std.proofs.Math.Path.{refl, ap}
 use Rattle.std.proofs.Common.{sym, ap₂, ◌∙◌, div-add-mod', arith, length-take, get_or-take}
 use mathlib.Core.List.{List, [], ◌∷◌, ◌++◌, append_assoc}
@@ -16,10 +16,9 @@ use Rattle.std.proofs.Math.Seq.{take-length}
 use borrow.Author.Tests.{eqb-true, not-false}
 use Rattle.lists.specs.Test.{same, same→eq, same_refl}
 use Rattle.bits.specs.Bits.{low_bits, bits_of, bits-take, bits-length}
-use Rattle.golomb.specs.declared.UeRead.TheVariants.{Number}
 use Rattle.golomb.specs.Code.{digits_in, num_bits, ue}
 use Rattle.golomb.specs.Laws.{ue-grow}
-use Rattle.golomb.specs.Answers.{read_ue, ue_number, ue_place}
+use Rattle.golomb.specs.Answers.{read_ue, read_number, read_place}
 use Rattle.bits.specs.Pack.{padding, packed_byte, packed-length, bits-packed}
 use Rattle.ycbcr_image.specs.declared.BitDepth.{BitDepth}
 use Rattle.ycbcr_image.specs.declared.BitDepth.TheVariants.{Depth8, Depth12}
@@ -51,10 +50,10 @@ width_place f = 30 + length (chroma_fields f)
 
 -- a code's number and the place behind it, or what stands for them where there is none
 abbrev pub number : List ℕ → ℕ → ℕ
-number p at = ue_number (read_ue p at) 0
+number p at = read_number (read_ue p at) 0
 
 abbrev pub behind : List ℕ → ℕ → ℕ
-behind p at = ue_place (read_ue p at) 0
+behind p at = read_place (read_ue p at) 0
 
 -- the place behind both sizes
 unfoldable pub sizes_end : List ℕ → ℕ
@@ -174,7 +173,7 @@ module _ (level : ℕ) (k : Kind) (d : BitDepth) (w h : ℕ) (g : Fine (record {
   head = head-length level (form_of k d)
 
   -- a code that stands in the payload is read in r
-  read : (c t : List ℕ) (at x : ℕ) → x ≤ 2 ^ 32 - 2 → bits_of p ≡ c ++ (ue x ++ t) → length c ≡ at → read_ue r at ≡ Number x (at + length (ue x))
+  read : (c t : List ℕ) (at x : ℕ) → x ≤ 2 ^ 32 - 2 → bits_of p ≡ c ++ (ue x ++ t) → length c ≡ at → read_ue r at ≡ Some (x, at + length (ue x))
   read c t at x l v n = ue-grow r j at x (at + length (ue x)) (rw begins (code-stands p c t at x few l v n))
 
   -- a bit of the payload is one of r
@@ -188,10 +187,10 @@ module _ (level : ℕ) (k : Kind) (d : BitDepth) (w h : ℕ) (g : Fine (record {
   form-begins : form_in r ≡ form_of k d
   form-begins = ap₂ form_by first (seen 25 (omega (arith, long))) ∙ form-found level k d w h
 
-  width-found : read_ue r o ≡ Number (pic_width_in_mbs q - 1) (o + length a)
+  width-found : read_ue r o ≡ Some (pic_width_in_mbs q - 1, o + length a)
   width-found = read H (b ++ (1 ∷ 0 ∷ (crop_fields q ++ R))) o (pic_width_in_mbs q - 1) (omega (arith, g.across-high)) bits head
 
-  height-found : read_ue r (o + length a) ≡ Number (frame_height_in_mbs q - 1) e
+  height-found : read_ue r (o + length a) ≡ Some (frame_height_in_mbs q - 1, e)
   height-found =
       read (H ++ a) (1 ∷ 0 ∷ (crop_fields q ++ R)) (o + length a) (frame_height_in_mbs q - 1) (omega (arith, g.down_high))
       (bits ∙ sym (append_assoc H a (b ++ (1 ∷ 0 ∷ (crop_fields q ++ R))))) (omega (arith, length-append H a, head))
@@ -222,11 +221,11 @@ module _ (level : ℕ) (k : Kind) (d : BitDepth) (w h : ℕ) (g : Fine (record {
       let t : List ℕ = ue (crop_bottom q) in
       let y : crop_fields q ++ R ≡ 1 ∷ 1 ∷ (c₁ ++ (1 ∷ (t ++ R))) = rw (crop_yes q c) (ap (λ (l : List ℕ). 1 ∷ 1 ∷ l) (append_assoc c₁ (1 ∷ t) R)) in
       let z : bits_of p ≡ (A ++ (1 ∷ 0 ∷ 1 ∷ 1 ∷ [])) ++ (c₁ ++ (1 ∷ (t ++ R))) = behind_sizes ∙ rw (y, append_assoc A (1 ∷ 0 ∷ 1 ∷ 1 ∷ []) (c₁ ++ (1 ∷ (t ++ R)))) refl in
-      let x : read_ue r (e + 4) ≡ Number (crop_right q) (e + 4 + length c₁) =
+      let x : read_ue r (e + 4) ≡ Some (crop_right q, e + 4 + length c₁) =
       read (A ++ (1 ∷ 0 ∷ 1 ∷ 1 ∷ [])) (1 ∷ (t ++ R)) (e + 4) (crop_right q) (omega (arith, right_most q g)) z (omega (arith, length-append A (1 ∷ 0 ∷ 1 ∷ 1 ∷ []), A-length)) in
       let B : List ℕ = A ++ (1 ∷ 0 ∷ 1 ∷ 1 ∷ (c₁ ++ (1 ∷ []))) in
       let v : bits_of p ≡ B ++ (t ++ R) = z ∙ simp append_assoc in
-      let u : read_ue r (e + 4 + length c₁ + 1) ≡ Number (crop_bottom q) (e + 4 + length c₁ + 1 + length t) =
+      let u : read_ue r (e + 4 + length c₁ + 1) ≡ Some (crop_bottom q, e + 4 + length c₁ + 1 + length t) =
       read B R (e + 4 + length c₁ + 1) (crop_bottom q) (omega (arith, bottom_most q g)) v
       (omega (arith, length-append A (1 ∷ 0 ∷ 1 ∷ 1 ∷ (c₁ ++ (1 ∷ []))), length-append c₁ (1 ∷ []), A-length)) in
       (rw (sizes_end_lem, flag 1 (1 ∷ (c₁ ++ (1 ∷ (t ++ R)))) y, x) refl, rw (sizes_end_lem, flag 1 (1 ∷ (c₁ ++ (1 ∷ (t ++ R)))) y, x, u) refl)

@@ -1,5 +1,5 @@
 -- The sequence parameter set taken apart at the codes that tell sizes: what stands before them, and how long everything is. Assumes nothing.
-use Rattle.std.specs.Prelude.{◌≡◌, refl, List, [], ◌∷◌, ◌++◌, Bool, true, false, cond, ℕ, ◌+◌, ◌-◌, ◌*◌, ◌^◌, ◌≤◌, ◌<◌, length, get_or}
+use Rattle.std.specs.Prelude.{◌≡◌, refl, Some, List, [], ◌∷◌, ◌++◌, Bool, true, false, cond, ℕ, ◌+◌, ◌-◌, ◌*◌, ◌^◌, ◌≤◌, ◌<◌, length, get_or}
 use Rattle.std.proofs.Common.{◌∙◌, append_assoc, div-le_self, arith, length-append, drop_at}
 use Rattle.std.proofs.lemmas.List.{get_or_at}
 use Rattle.lists.specs.Every.{Below, below_nil, below_append}
@@ -7,7 +7,6 @@ use Rattle.bits.specs.Bits.{low_bits, bits_of, low_below, from_small}
 use Rattle.golomb.specs.Code.{digits_in, num_bits, ue, ue-length, ue_below, num_most}
 use Rattle.golomb.specs.Answers.{read_ue}
 use Rattle.golomb.specs.Laws.{ue-stands}
-use Rattle.golomb.specs.declared.UeRead.TheVariants.{Number}
 use Rattle.ycbcr_image.specs.declared.BitDepth.{BitDepth}
 use Rattle.ycbcr_image.specs.declared.BitDepth.TheVariants.{Depth8, Depth12}
 use Rattle.ycbcr_image.specs.declared.Kind.{Kind}
@@ -61,7 +60,7 @@ sps_below level q = search (below_append, low_below, ue_below, chroma_below, cro
 
 -- where a code stands behind what is known, it is read
 pub code-stands : (p a t : List ℕ) (at x : ℕ) → 8 * length p < 2 ^ 64 → x ≤ 2 ^ 32 - 2 → bits_of p ≡ a ++ (ue x ++ t) → length a ≡ at
-    → read_ue p at ≡ Number x (at + length (ue x))
+    → read_ue p at ≡ Some (x, at + length (ue x))
 code-stands p a t at x h l e n = ue-stands p at x t l (from_small p at h ∙ rw e (drop_at a (ue x ++ t) at n))
 
 -- a bit behind what is known

@@ -1,0 +1,4 @@
+pub mod Sizes
+pub mod Fields
+pub mod Equal
+pub mod Read
