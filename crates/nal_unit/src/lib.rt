@@ -19,8 +19,7 @@ ghost use Rattle.nal_unit.specs.Answers.{escaped_of, escaped_out};
 pub fn escaped_len(payload: &[u8]) -> usize
     ensures { result ≡ length (esc payload.now) }
 {
-    let r = count::count_slice(payload, 0, payload.len(), 0);
-    r.n
+    count::count_slice(payload, 0, payload.len(), 0).n
 }
 
 // Whether a payload's escape has at most `room` bytes. It has at most half as many again as the payload, so where there is that much room nothing is counted.

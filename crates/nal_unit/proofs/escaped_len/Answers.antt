@@ -5,4 +5,4 @@ use Rattle.nal_unit.specs.Escape.{esc}
 use Rattle.nal_unit.proofs.escaped_len.Goals as goal
 
 pub returns : goal.returns
-returns c = c.count_slice-r.ensures.size ∙ ap (λ (l : List ℕ). length (esc l)) (part_all c.args.payload.now (length c.args.payload.now) refl)
+returns c = c.count_slice.ensures.size ∙ ap (λ (l : List ℕ). length (esc l)) (part_all c.args.payload.now (length c.args.payload.now) refl)

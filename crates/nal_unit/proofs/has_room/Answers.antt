@@ -1,5 +1,5 @@
 -- `nal_unit::has_room` meets its contract: an escape is no shorter than its payload, and longer by half at most. Assumes nothing.
-use Rattle.std.proofs.Common.{sym, ap, ℕ, arith, leb, length, le-leb}
+use Rattle.std.proofs.Common.{sym, arith, length, le-leb}
 use borrow.Author.Tests.{lt-leb}
 use Rattle.nal_unit.specs.Escape.{esc, esc_most}
 use Rattle.nal_unit.specs.EscapeCode.{esc_least}
@@ -10,6 +10,3 @@ returns-then-room-n c = let a = c.args in sym (lt-leb (length (esc a.payload.now
 
 pub returns-then-room-n-2 : goal.returns-then-room-n-2
 returns-then-room-n-2 c = let a = c.args in sym (le-leb (length (esc a.payload.now)) a.room (omega (arith, esc_most 0 a.payload.now)))
-
-pub returns : goal.returns
-returns c = ap (λ (n : ℕ). leb n c.args.room) c.escaped_len.ensures

@@ -8,12 +8,11 @@ use Rattle.nal_unit.proofs.scan.unit_scan.Goals as goal
 pub returns-then-s-from : goal.returns-then-s-from
 returns-then-s-from c = unit-beyond c.args.s.now c.args.from (omega arith)
 
-pub trim_end-stop-requires : goal.trim_end-stop-requires
-trim_end-stop-requires c =
+pub trim_end-stop-requires-clause-end_in_bounds : goal.trim_end-stop-requires-clause-end_in_bounds
+trim_end-stop-requires-clause-end_in_bounds c =
     let s = c.args.s.now in
     let f = c.seek-found.result.fault in
-    let d = length-drop c.args.from s in
-    let g = c.seek-found.ensures.fault in record { from_le_end = omega (arith, g); end_in_bounds = omega (arith, first_le (drop c.args.from s), d, next_le (drop f s), length-drop f s, g, c.next_code-end.ensures) }
+    omega (arith, first_le (drop c.args.from s), length-drop c.args.from s, next_le (drop f s), length-drop f s, c.seek-found.ensures.fault)
 
 pub overflow_add-bad : goal.overflow_add-bad
 overflow_add-bad c =

@@ -1,7 +1,6 @@
 -- `nal_unit::unescape::put_byte` meets its contract. Assumes nothing.
-use Rattle.std.proofs.Common.{◌≡◌, refl, sym, ap, ◌∙◌, [], ◌∷◌, ◌+◌, ◌<◌, add-zero, arith, length, get_or}
+use Rattle.std.proofs.Common.{refl, sym, ap, ◌∙◌, [], ◌∷◌, add-zero, arith, length, get_or}
 use Rattle.lists.specs.Fill.{splice_none, set-splice}
-use Rattle.nal_unit.specs.Kept.{kept}
 use Rattle.nal_unit.specs.UnescapeCode.{unescapes_as, kept-mark, kept_byte}
 use Rattle.nal_unit.proofs.unescape.put_byte.Goals as goal
 
@@ -12,18 +11,13 @@ returns-then-inserted_at c =
     unescapes_as [] e (sym (splice_none a.out.now a.a)) (sym (add-zero a.a))
 
 -- the byte is of the payload
-byte : (c : goal.After-shared_slice_known-2-1) → let a = c.args in kept a.s.now a.p (a.p + 1) ≡ get_or a.s.now a.p 0 ∷ []
-byte c =
-    let a = c.args in
-    kept_byte a.s.now a.p (omega arith) (omega arith) (sym c.inserted_at.ensures ∙ c.if-inserted_at.false)
-
-room : (c : goal.After-shared_slice_known-2-1) → c.args.a < length c.args.out.now
-room c = omega (arith, c.requires.p_in_bounds, ap length (byte c))
-
 pub bounds-out-a : goal.bounds-out-a
-bounds-out-a c = room c
+bounds-out-a c =
+    let a = c.args in
+    omega (arith, c.requires.p_in_bounds, ap length (kept_byte a.s.now a.p (omega arith) (omega arith) (sym c.inserted_at.ensures ∙ c.if-inserted_at.false)))
 
 pub returns : goal.returns
 returns c =
     let a = c.args in
-    unescapes_as (get_or a.s.now a.p 0 ∷ []) (byte c) (set-splice a.out.now a.a (get_or a.s.now a.p 0) (room c)) refl
+    let e = kept_byte a.s.now a.p (omega arith) (omega arith) (sym c.inserted_at.ensures ∙ c.if-inserted_at.false) in
+    unescapes_as (get_or a.s.now a.p 0 ∷ []) e (set-splice a.out.now a.a (get_or a.s.now a.p 0) (omega (arith, c.requires.p_in_bounds, ap length e))) refl

@@ -8,8 +8,10 @@ use Rattle.nal_unit.proofs.unit.put_unit.Goals as goal
 pub open_unit-a-requires : goal.open_unit-a-requires
 open_unit-a-requires c = omega (arith, c.requires, framed-length c.args.header c.args.payload.now)
 
-pub put_slice-requires : goal.put_slice-requires
-put_slice-requires c = record { n_in_bounds = omega arith; n_in_bounds_2 = rw (part_all c.args.payload.now (length c.args.payload.now) refl) (frame_room c.args.out.now c.args.at c.args.header c.args.payload.now c.requires.header_nonzero c.requires.payload_in_bounds c.open_unit-a.ensures.out_after c.open_unit-a.ensures.value) }
+pub put_slice-requires-clause-n_in_bounds_2 : goal.put_slice-requires-clause-n_in_bounds_2
+put_slice-requires-clause-n_in_bounds_2 c =
+    rw (part_all c.args.payload.now (length c.args.payload.now) refl)
+    (frame_room c.args.out.now c.args.at c.args.header c.args.payload.now c.requires.header_nonzero c.requires.payload_in_bounds c.open_unit-a.ensures.out_after c.open_unit-a.ensures.value)
 
 pub returns : goal.returns
 returns c =
