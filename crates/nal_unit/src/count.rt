@@ -1,5 +1,5 @@
 // The length of an escaped payload, found without writing it. The count of zero bytes is carried.
-ghost use Rattle.std.specs.Prelude.{◌∷◌, [], ◌+◌, ◌≤◌, length};
+ghost use Rattle.std.specs.Prelude.{◌≡◌, ◌∷◌, [], ◌+◌, ◌^◌, ◌≤◌, ◌<◌, length};
 ghost use Rattle.lists.specs.Part.{part};
 ghost use Rattle.nal_unit.specs.EscapeCode.{counted};
 ghost use Rattle.nal_unit.specs.CountCode.{Counts};
@@ -11,6 +11,19 @@ use crate::calm;
 pub struct Count {
     pub n: usize,
     pub z: usize,
+}
+
+impl Count {
+    // This stretch and the next one, which was counted on from here.
+    fn then(self, next: Count) -> Count
+        requires { self.n + next.n < 2 ^ 64 }
+        ensures { (result.n ≡ self.n + next.n) × (result.z ≡ next.z) }
+    {
+        Count {
+            n: self.n + next.n,
+            z: next.z,
+        }
+    }
 }
 
 // One byte of payload after z counted zeros.
@@ -39,16 +52,11 @@ fn count_bytes(s: &[u8], p: usize, n: usize, z: usize) -> Count
     requires z_bound { z ≤ 2 }
     ensures { Counts z (part s.now p n) result.n result.z }
 {
-    let mut m: usize = 0;
-    let mut y = z;
-    let mut k = 0;
-    while k < n {
-        let r = count_byte(y, s[p + k]);
-        m += r.n;
-        y = r.z;
-        k += 1;
+    let mut all = Count { n: 0, z };
+    for b in &s[p..p + n] {
+        all = all.then(count_byte(all.z, *b));
     }
-    Count { n: m, z: y }
+    all
 }
 
 // The 64 bytes of payload from the place p of s on. As many zeros stand before p as are counted, or more.
@@ -59,13 +67,13 @@ fn count64(s: &[u8], p: usize, z: usize) -> Count
     ensures { Counts z (part s.now p 64) result.n result.z }
 {
     if calm::calm(s, p, 64) {
-        let y = calm::zeros_before(s, p + 64);
-        return Count { n: 64, z: y };
+        return Count {
+            n: 64,
+            z: calm::zeros_before(s, p + 64),
+        };
     }
-    if z > 0 {
-        if calm::void(s, p, 64) {
-            return Count { n: 96, z };
-        }
+    if z > 0 && calm::void(s, p, 64) {
+        return Count { n: 96, z };
     }
     count_bytes(s, p, 64, z)
 }
@@ -77,20 +85,13 @@ fn count_chunks(s: &[u8], p: usize, n: usize, z: usize) -> Count
     requires z_bound_2 { z ≤ counted s.now p }
     ensures { Counts z (part s.now p n) result.n result.z }
 {
-    let mut m: usize = 0;
-    let mut y = z;
-    let mut k = 0;
-    while n - k >= 64 {
-        let r = count64(s, p + k, y);
-        m += r.n;
-        y = r.z;
-        k += 64;
+    let whole = n / 64;
+    let mut all = Count { n: 0, z };
+    for i in 0..whole {
+        all = all.then(count64(s, p + 64 * i, all.z));
     }
-    let last = count_bytes(s, p + k, n - k, y);
-    Count {
-        n: m + last.n,
-        z: last.z,
-    }
+    let k = 64 * whole;
+    all.then(count_bytes(s, p + k, n - k, all.z))
 }
 
 // The n bytes of payload from the place p of s on, after z counted zeros.
@@ -103,9 +104,5 @@ pub fn count_slice(s: &[u8], p: usize, n: usize, z: usize) -> Count
         return count_bytes(s, p, n, z);
     }
     let first = count_bytes(s, p, 2, z);
-    let others = count_chunks(s, p + 2, n - 2, first.z);
-    Count {
-        n: first.n + others.n,
-        z: others.z,
-    }
+    first.then(count_chunks(s, p + 2, n - 2, first.z))
 }

@@ -6,7 +6,7 @@ use Rattle.nal_unit.proofs.count.count64.Goals as goal
 
 pub returns-then-calm : goal.returns-then-calm
 returns-then-calm c =
-    rw c.zeros_before-y.ensures
+    rw c.zeros_before.ensures
     (counts-quiet c.args.s.now c.args.p 62 c.args.z c.requires.z_bound c.requires.le_p.1
     (quiet-part c.args.s.now c.args.p 64 c.args.z c.requires.le_p.1 c.requires.z_bound c.requires.z_bound_2 (sym c.calm.ensures ∙ c.if-calm.true)))
 

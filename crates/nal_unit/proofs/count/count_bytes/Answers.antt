@@ -1,31 +1,36 @@
 -- `nal_unit::count::count_bytes` meets its contract. The loop's invariant: what is counted, and what is still to come. Assumes nothing.
-use Rattle.std.proofs.Common.{List, [], ◌∷◌, ℕ, ◌+◌, arith, drop, get_or, rules}
-use Rattle.lists.specs.Part.{part, part_step, part_length, part_end}
-use Rattle.nal_unit.specs.CountCode.{Counting, count_begin, count_turn, count_end}
+use Rattle.std.proofs.Common.{◌≡◌, List, [], ◌∷◌, ℕ, ◌+◌, ◌≤◌, ◌<◌, arith, length, drop, get_or, slice_range, drop_of_length-le}
+use Rattle.lists.specs.Part.{part_length, drop_step}
+use Rattle.nal_unit.specs.CountCode.{Counts, Counting, count_begin, count_turn, count_end}
+use Rattle.nal_unit.proofs.Copying.{range-part}
 use Rattle.nal_unit.proofs.count.count_bytes.Goals as goal
 
-abbrev byte : goal.After-struct_known-1 → ℕ
-byte k = get_or k.args.s.now (k.args.p + k.loop-k.k) 0
+wide : (s : List ℕ) (p n : ℕ) → p + n ≤ length s → length (slice_range s p (p + n)) ≡ n
+wide s p n h = rw (range-part s p n) (part_length s p n h)
 
-abbrev rest : goal.After-struct_known-1 → List ℕ
-rest k = drop (k.loop-k.k + 1) (part k.args.s.now k.args.p k.args.n)
+-- one byte more
+next : {z m y m' y' : ℕ} (all : List ℕ) (k : ℕ) → Counting z all m y (drop k all) → k < length all → Counts y (get_or all k 0 ∷ []) m' y'
+    → Counting z all (m + m') y' (drop (k + 1) all)
+next all k g h c = count_turn (get_or all k 0 ∷ []) (drop (k + 1) all) (rw (drop_step all k h) at g) c
 
-step : (c : goal.After-struct_known-1) →
-    Counting c.args.z (part c.args.s.now c.args.p c.args.n) (c.loop-k.m + c.count_byte-r.result.n) c.count_byte-r.result.z (rest c)
-step c =
-    count_turn (byte c ∷ []) (rest c)
-    (rw (part_step c.args.s.now c.args.p c.args.n c.loop-k.k c.requires.n_in_bounds c.loop-k-test.true) at c.loop-k.invariant.1)
-    c.count_byte-r.ensures
+pub loop-b-init : goal.loop-b-init
+loop-b-init c = let a = c.args in count_begin a.z (slice_range a.s.now a.p (a.p + a.n)) c.requires.z_bound
 
-pub loop-k-init : goal.loop-k-init
-loop-k-init c = (search rules, count_begin c.args.z (part c.args.s.now c.args.p c.args.n) c.requires.z_bound)
+pub then-all-requires : goal.then-all-requires
+then-all-requires c =
+    let a = c.args in
+    let g = next (slice_range a.s.now a.p (a.p + a.n)) c.loop-b.b-index c.loop-b.invariant (omega arith) c.count_byte.ensures in
+    omega (arith, wide a.s.now a.p a.n c.requires.n_in_bounds, c)
 
-pub overflow_add-m : goal.overflow_add-m
-overflow_add-m c = let g = step c in omega (arith, part_length c.args.s.now c.args.p c.args.n c.requires.n_in_bounds, c)
-
-pub loop-k-preserved : goal.loop-k-preserved
-loop-k-preserved c = (search rules, step c)
+pub loop-b-preserved : goal.loop-b-preserved
+loop-b-preserved c =
+    let a = c.args in
+    rw (c.then-all.ensures.0, c.then-all.ensures.1)
+    (next (slice_range a.s.now a.p (a.p + a.n)) c.loop-b.b-index c.loop-b.invariant (omega arith) c.count_byte.ensures)
 
 pub returns : goal.returns
-returns c = let a = c.args in
-    count_end (rw (part_end a.s.now a.p a.n c.loop-k.k c.requires.n_in_bounds c.loop-k-test.false) at c.loop-k.invariant.1)
+returns c =
+    let a = c.args in
+    let all = slice_range a.s.now a.p (a.p + a.n) in
+    let l : length all ≤ c.loop-b.b-index = omega arith in
+    rw (range-part a.s.now a.p a.n) at (count_end (rw (drop_of_length-le all l) at c.loop-b.invariant))

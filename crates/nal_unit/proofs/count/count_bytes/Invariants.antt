@@ -1,10 +1,6 @@
-use Rattle.std.proofs.Common.{◌-◌, ◌≤◌, drop}
-use Rattle.lists.specs.Part.{part}
+use Rattle.std.proofs.Common.{◌+◌, drop, slice_range}
 use Rattle.nal_unit.specs.CountCode.{Counting}
 use Rattle.nal_unit.proofs.count.count_bytes.Given as goal
 
-abbrev pub invariant-loop-k : goal.invariant-loop-k
-invariant-loop-k l = (l.k ≤ l.n) × Counting l.z (part l.s l.p l.n) l.m l.y (drop l.k (part l.s l.p l.n))
-
-abbrev pub decreases-loop-k : goal.decreases-loop-k
-decreases-loop-k l = l.n - l.k
+abbrev pub invariant-loop-b : goal.invariant-loop-b
+invariant-loop-b l = Counting l.z (slice_range l.s l.p (l.p + l.n)) l.all.n l.all.z (drop l.b-index (slice_range l.s l.p (l.p + l.n)))
