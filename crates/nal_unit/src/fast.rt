@@ -39,7 +39,7 @@ fn put64(s: &[u8], p: usize, out: &mut [u8], at: usize) -> usize
         rows::copy_fixed::<64>(s, p, out, at);
         return at + 64;
     }
-    let z = calm::zeros_before(&*out, at);
+    let z = calm::zeros_before(out, at);
     if z > 0 && calm::void(s, p, 64) {
         let one = z == 1;
         let pairs = if one { BEHIND_ONE } else { BEHIND_TWO };
@@ -56,12 +56,12 @@ fn put_chunks(s: &[u8], p: usize, n: usize, out: &mut [u8], at: usize) -> usize
     requires at_bound { counted out.old at ≤ counted s.now p }
     ensures { Put out.old at (part s.now p n) out.new result }
 {
+    let whole = n / 64;
     let mut a = at;
-    let mut k = 0;
-    while n - k >= 64 {
-        a = put64(s, p + k, out, a);
-        k += 64;
+    for i in 0..whole {
+        a = put64(s, p + 64 * i, out, a);
     }
+    let k = 64 * whole;
     put::put_bytes(s, p + k, n - k, out, a)
 }
 
@@ -87,10 +87,10 @@ pub fn mend(out: &mut [u8], at: usize, n: usize) -> usize
     requires n_in_bounds_2 { at + length (esc_from (counted out.old at) (part out.old at n)) ≤ length out.old }
     ensures { Put out.old at (part out.old at n) out.new result }
 {
-    if calm::calm(&*out, at, n) {
+    if calm::calm(out, at, n) {
         return at + n;
     }
     let mut plain = [0u8; 1040];
-    rows::copy(&*out, at, n, &mut plain[..], 0);
-    put_slice(&plain[..], 0, n, out, at)
+    rows::copy(out, at, n, &mut plain, 0);
+    put_slice(&plain, 0, n, out, at)
 }

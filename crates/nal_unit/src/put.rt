@@ -28,7 +28,7 @@ fn put(out: &mut [u8], at: usize, b: u8) -> usize
     requires { at + length (esc_from (counted out.old at) (b ∷ [])) ≤ length out.old }
     ensures { Put out.old at (b ∷ []) out.new result }
 {
-    if wants3(&*out, at, b) {
+    if wants3(out, at, b) {
         out[at] = 3;
         out[at + 1] = b;
         return at + 2;
@@ -44,10 +44,8 @@ pub fn put_bytes(s: &[u8], p: usize, n: usize, out: &mut [u8], at: usize) -> usi
     ensures { Put out.old at (part s.now p n) out.new result }
 {
     let mut a = at;
-    let mut k = 0;
-    while k < n {
-        a = put(out, a, s[p + k]);
-        k += 1;
+    for b in &s[p..p + n] {
+        a = put(out, a, *b);
     }
     a
 }

@@ -1,7 +1,7 @@
 -- `nal_unit::count::count_chunks` meets its contract. The loop's invariant: what is counted, what is still to come, and how many zeros stand before it. Assumes nothing.
-use Rattle.std.proofs.Common.{◌≡◌, ◌+◌, ◌-◌, ◌*◌, ◌/◌, ℕ, arith, length}
-use Rattle.lists.specs.Part.{part, part_length}
-use Rattle.nal_unit.specs.CountCode.{Counts, counts-fit, Passing, passing_start, passing_turn, passing_end}
+use Rattle.std.proofs.Common.{◌≡◌, ◌+◌, ◌*◌, ◌/◌, arith}
+use Rattle.lists.specs.Part.{part_length}
+use Rattle.nal_unit.specs.CountCode.{counts-fit, passing_start, passing_turn, passing_end}
 use Rattle.nal_unit.proofs.count.count_chunks.Goals as goal
 
 pub loop-i-init : goal.loop-i-init

@@ -1,5 +1,5 @@
 -- `nal_unit::count::count_slice` meets its contract: the first two bytes, then the others. Assumes nothing.
-use Rattle.std.proofs.Common.{◌≡◌, List, ◌++◌, ℕ, ◌+◌, ◌-◌, arith}
+use Rattle.std.proofs.Common.{◌≡◌, ◌++◌, ◌+◌, ◌-◌, arith}
 use Rattle.lists.specs.Part.{part, part_length, part_cut}
 use Rattle.nal_unit.specs.EscapeCode.{end_most}
 use Rattle.nal_unit.specs.CalmCode.{first_two}
