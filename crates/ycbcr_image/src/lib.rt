@@ -1,5 +1,6 @@
 // Pictures by their numbers (ycbcr_image.rs, and the size tests of encoder.rs, with BitDepth, div_ceil and next_multiple of lib.rs): kinds and sizes, and the
-// writer's refusals 1 to 8. The planes' bytes stay with the caller. Planes are numbered: 0 is Y, 1 Cb, 2 Cr.
+// writer's refusals 1 to 8. The planes' bytes stay with the caller. Planes are numbered: 0 is Y, 1 Cb, 2 Cr (an enum would refuse the numbers that C's
+// reelpony_plane_len serves).
 #![tactic(auto)]
 
 ghost use Rattle.std.specs.Prelude.{◌≡◌, true, ◌+◌, ◌^◌, ◌<◌};
@@ -114,7 +115,7 @@ impl Refusal {
 }
 
 impl Session {
-    // What the kind and the depth fix.
+    // What the kind and the depth fix. Across and down there is a function each, since the standard has a formula each: they agree in 4:2:0.
 
     // Whether there is no chroma.
     #[tactic(auto, unfolding(crate::specs::Form::mono))]
@@ -204,7 +205,7 @@ impl Session {
         self.row_bytes(256 + 2 * (self.mb_width(1) * self.mb_height(1)))
     }
 
-    // Sizes.
+    // Sizes. (What they require is no type of its own: `tight_len` is public and keeps its `requires`, and for the private ones it would be no plainer.)
 
     // The macroblocks across a picture.
     #[tactic(auto, unfolding(crate::specs::Sizes::pic_width_in_mbs, crate::specs::Sizes::next_multiple, crate::specs::Sizes::div_ceil))]
