@@ -10,7 +10,7 @@ pub const BYTES: usize = 16;
 pub const BITS: usize = 8 * BYTES;
 
 // A number with the kind of its code.
-#[derive(Clone, Copy)]
+#[derive(Clone, Copy, Debug, PartialEq, Eq)]
 pub enum Number {
     Ue(u32),
     Se(i32),

@@ -40,7 +40,7 @@ fn signed(minus: bool, size: u64) -> Number {
 }
 
 // What a line says: a number, and the digits of its code.
-#[derive(Clone, Copy)]
+#[derive(Clone, Copy, Debug, PartialEq, Eq)]
 struct Line<'a> {
     x: Number,
     size: u64,
@@ -90,7 +90,8 @@ pub fn judge_input(rt: &(impl Input + Alloc)) -> io::Result<Tally> {
     if text.len() < LIST {
         return Ok(judge_text(&text));
     }
-    let mut tally = Tally::default();
-    tally.count(false);
-    Ok(tally)
+    Ok(Tally {
+        compared: 1,
+        wrong: 1,
+    })
 }

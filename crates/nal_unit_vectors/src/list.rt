@@ -53,7 +53,8 @@ pub fn judge_input(rt: &impl Input, alloc: Global) -> io::Result<Tally> {
     if !text.is_empty() && text.len() < LIST {
         return Ok(judge_text(alloc, &text)?);
     }
-    let mut tally = Tally::default();
-    tally.count(false);
-    Ok(tally)
+    Ok(Tally {
+        compared: 1,
+        wrong: 1,
+    })
 }

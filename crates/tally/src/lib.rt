@@ -79,12 +79,10 @@ impl fmt::Display for Tally {
     ghost output = { λ t. Some (line t) };
 
     fn fmt<W: fmt::Write>(&self, f: &mut fmt::Formatter<W>) -> fmt::Result {
-        let compared = self.compared;
-        let wrong = self.wrong;
         if self.is_right() {
-            write!(f, "{compared} compared, ok")
+            write!(f, "{} compared, ok", self.compared)
         } else {
-            write!(f, "{compared} compared, WRONG: {wrong}")
+            write!(f, "{} compared, WRONG: {}", self.compared, self.wrong)
         }
     }
 }
