@@ -3,7 +3,7 @@
 --     start_is, next_is       what the calls write is made of them
 --     lack n room             None where n bytes have room, else n
 -- Assumes nothing.
-use Rattle.std.specs.Prelude.{◌≡◌, refl, List, [], ◌∷◌, ◌++◌, true, cond, ℕ, ◌+◌, ◌≤◌, ◌<◌, Option, Some, None, Ok, Err, leb, length}
+use Rattle.std.specs.Prelude.{◌≡◌, refl, List, [], ◌∷◌, ◌++◌, true, cond, ℕ, ◌+◌, ◌≤◌, ◌<◌, Option, Some, None, Err, leb, length}
 use Rattle.std.proofs.Common.{sym, ap, ◌∙◌, append_assoc, append-nil, zero-add, arith, length-append, le-leb, eq-eqb, ne_eqb}
 use Rattle.std.proofs.lemmas.Bool.{lt-leb}
 use Rattle.lists.specs.Fill.{splice, splice-length, splice_front}

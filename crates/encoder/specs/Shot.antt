@@ -2,7 +2,7 @@
 --     Lent, Shot             a lent plane with its bytes, stride and depth; a picture of three of them
 --     image_of, lends_of     its numbers, by which the refusals go; its bytes, which the payload is made of
 --     sequence_in            what it says of the take: size and kind
---     shot                   the picture of a call's arguments
+--     shot, shot_of          the picture of its parts, and that of a call's argument
 --     shot_whole             a picture that passes 1 to 8 is lent whole
 -- Assumes nothing.
 use Rattle.std.specs.Prelude.{List, ℕ, zero, suc, ◌*◌, ◌≤◌, ◌<◌, length}
@@ -10,6 +10,7 @@ use Rattle.std.proofs.Common.{mul_assoc}
 use Rattle.slice.specs.declared.Strides.{Strides}
 use Rattle.slice.specs.Picture.{Lends, lend_at, Whole}
 use Rattle.encoder.specs.declared.Depths.{Depths}
+use Rattle.encoder.specs.declared.Picture.{Picture}
 use Rattle.ycbcr_image.specs.declared.BitDepth.{BitDepth}
 use Rattle.ycbcr_image.specs.declared.Kind.{Kind}
 use Rattle.ycbcr_image.specs.declared.DataPlane.{DataPlane}
@@ -55,6 +56,9 @@ lent s stride depth = record { bytes = s; stride = stride; depth = depth }
 abbrev pub shot : ℕ → ℕ → Kind → List ℕ → List ℕ → List ℕ → Strides → Depths → Shot
 shot w h k y cb cr t d =
     record { width = w; height = h; kind = k; y = lent y t.y d.y; cb = lent cb t.cb d.cb; cr = lent cr t.cr d.cr }
+
+abbrev pub shot_of : Picture → Shot
+shot_of p = shot p.width p.height p.kind p.planes.y.now p.planes.cb.now p.planes.cr.now p.planes.strides p.depths
 
 -- a picture that passes is lent whole
 pub shot_whole : (s : Shot) → Passed (image_of s) → Whole (sequence_in s) (lends_of s)

@@ -9,13 +9,13 @@ ghost use Rattle.ycbcr_image.specs.Accepted.{Fine};
 ghost use Rattle.slice.specs.Laid.{Laid};
 ghost use Rattle.slice.specs.Macroblocks.{lends_in, Ready};
 ghost use Rattle.encoder.specs.declared.EncodeError.TheVariants.{Refused};
-ghost use Rattle.encoder.specs.Shot.{lent, plane_of, shot, image_of};
+ghost use Rattle.encoder.specs.Shot.{lent, plane_of, shot_of, image_of};
 ghost use Rattle.encoder.specs.Answers.{start_of, start_out, next_of, next_out};
 ghost use Rattle.encoder.specs.Code.{sets, picture_bytes, lack};
 ghost use Rattle.encoder.specs.Room.{sets_most, picture_most, room_of};
 
 use nal_unit::{count, fast, unit};
-use slice::{Planes, Strides};
+use slice::Planes;
 use ycbcr_image::{BitDepth, DataPlane, Kind, Refusal, Session, YCbCrImage};
 
 // The most that the units of both parameter sets have.
@@ -27,6 +27,16 @@ pub struct Depths {
     pub y: BitDepth,
     pub cb: BitDepth,
     pub cr: BitDepth,
+}
+
+// A picture as a host lends it.
+#[derive(Clone, Copy)]
+pub struct Picture<'a> {
+    pub width: u32,
+    pub height: u32,
+    pub kind: Kind,
+    pub planes: Planes<'a>,
+    pub depths: Depths,
 }
 
 // What a call did: the session that it leaves, and the length written.
@@ -62,17 +72,20 @@ fn plane_of(bytes: &[u8], stride: usize, depth: BitDepth) -> DataPlane
     }
 }
 
-// The numbers of a picture, by which it is accepted or refused.
-fn image_of(width: u32, height: u32, kind: Kind, planes: Planes, depths: Depths) -> YCbCrImage
-    ensures { let p = planes.entry in result ≡ image_of (shot width height kind p.y.now p.cb.now p.cr.now p.strides depths) }
-{
-    YCbCrImage {
-        width,
-        height,
-        kind,
-        y: plane_of(planes.y, planes.strides.y, depths.y),
-        cb: plane_of(planes.cb, planes.strides.cb, depths.cb),
-        cr: plane_of(planes.cr, planes.strides.cr, depths.cr),
+impl Picture<'_> {
+    // Its numbers, by which it is accepted or refused.
+    fn image(self) -> YCbCrImage
+        ensures { result ≡ image_of (shot_of self.entry) }
+    {
+        let strides = self.planes.strides;
+        YCbCrImage {
+            width: self.width,
+            height: self.height,
+            kind: self.kind,
+            y: plane_of(self.planes.y, strides.y, self.depths.y),
+            cb: plane_of(self.planes.cb, strides.cb, self.depths.cb),
+            cr: plane_of(self.planes.cr, strides.cr, self.depths.cr),
+        }
     }
 }
 
@@ -162,57 +175,34 @@ fn put_picture(planes: Planes, s: Session, out: &mut [u8], at: usize) -> usize
 }
 
 // The start call: writes the parameter sets and the first picture, and begins a session.
-pub fn start(
-    width: u32,
-    height: u32,
-    kind: Kind,
-    y: &[u8],
-    cb: &[u8],
-    cr: &[u8],
-    strides: Strides,
-    depths: Depths,
-    out: &mut [u8],
-) -> Result<Written, EncodeError>
-    ensures value { result ≡ start_of (shot width height kind y.now cb.now cr.now strides depths) out.old }
-    ensures out_after { out.new ≡ start_out (shot width height kind y.now cb.now cr.now strides depths) out.old }
+pub fn start(picture: Picture, out: &mut [u8]) -> Result<Written, EncodeError>
+    ensures value { result ≡ start_of (shot_of picture.entry) out.old }
+    ensures out_after { out.new ≡ start_out (shot_of picture.entry) out.old }
 {
-    let planes = Planes { y, cb, cr, strides };
-    let image = image_of(width, height, kind, planes, depths);
+    let image = picture.image();
     image.check_start()?;
     let session = image.session();
     let before = sets_len(session);
-    if let Some(need) = lacking(planes, session, before, out.len()) {
+    if let Some(need) = lacking(picture.planes, session, before, out.len()) {
         return Err(EncodeError::NoRoom(need));
     }
     let at = put_sets(session, out);
-    let length = put_picture(planes, session, out, at);
+    let length = put_picture(picture.planes, session, out, at);
     Ok(Written { session, length })
 }
 
 // The next call: writes one more picture in the session held.
-pub fn next(
-    held: Session,
-    width: u32,
-    height: u32,
-    kind: Kind,
-    y: &[u8],
-    cb: &[u8],
-    cr: &[u8],
-    strides: Strides,
-    depths: Depths,
-    out: &mut [u8],
-) -> Result<Written, EncodeError>
-    ensures value { result ≡ next_of held (shot width height kind y.now cb.now cr.now strides depths) out.old }
-    ensures out_after { out.new ≡ next_out held (shot width height kind y.now cb.now cr.now strides depths) out.old }
+pub fn next(held: Session, picture: Picture, out: &mut [u8]) -> Result<Written, EncodeError>
+    ensures value { result ≡ next_of held (shot_of picture.entry) out.old }
+    ensures out_after { out.new ≡ next_out held (shot_of picture.entry) out.old }
 {
-    let planes = Planes { y, cb, cr, strides };
-    let image = image_of(width, height, kind, planes, depths);
+    let image = picture.image();
     image.check_next(held)?;
     let s = image.session();
-    if let Some(need) = lacking(planes, s, 0, out.len()) {
+    if let Some(need) = lacking(picture.planes, s, 0, out.len()) {
         return Err(EncodeError::NoRoom(need));
     }
-    let length = put_picture(planes, s, out, 0);
+    let length = put_picture(picture.planes, s, out, 0);
     Ok(Written {
         session: held,
         length,
