@@ -1,5 +1,5 @@
 // The parameter sets (lib.rs: Sps, Pps, Vui, ProfileIdc; ITU-T H.264 7.3.2.1.1, 7.3.2.2 and E.1.1): their payloads, written and read back.
-// A payload is written into 32 bytes of zeros, a few fields a method.
+// A payload is written into 32 bytes of zeros, a few fields a method. What takes a Session first is a function and no method: the type is ycbcr_image's.
 #![tactic(auto)]
 
 ghost use Rattle.std.specs.Prelude.{◌≡◌, true, ◌+◌, ◌-◌, ◌*◌, ◌^◌, ◌≤◌, eqb, length, get_or};
@@ -18,18 +18,16 @@ ghost use Rattle.parameter_sets.specs.Code.{head_fields, size_fields, cropping_o
 
 use ycbcr_image::{BitDepth, Kind, Session};
 
-// profile_idc: baseline, high or high444pp.
-#[tactic(auto, unfolding(crate::specs::Sps::profile_idc))]
+// profile_idc, baseline, high or high444pp: the standard's number, which a payload carries; kinds are `s.kind` and `s.depth`.
+#[tactic(auto, unfolding(crate::specs::Sps::profile_idc, ycbcr_image::specs::Form::mono))]
 fn profile_idc(s: Session) -> u8
     ensures { result ≡ profile_idc (sequence_of s).form }
 {
-    if s.depth.num_bits() != 8 {
-        return 244;
+    match (s.kind, s.depth) {
+        (_, BitDepth::Depth12) => 244,
+        (Kind::Mono, BitDepth::Depth8) => 100,
+        (Kind::Colour, BitDepth::Depth8) => 66,
     }
-    if s.is_monochrome() {
-        return 100;
-    }
-    66
 }
 
 // The offsets of the cropping rectangle, in crop units.
@@ -162,7 +160,7 @@ impl Writer {
 }
 
 // vui_parameters_present_flag, the VUI and rbsp_stop_one_bit. Of the VUI video_signal_type_present_flag and video_full_range_flag are set and
-// video_format is 5; every other flag is 0. No method: the type of a lent slice says that its bytes are bytes, as `sps` needs at the end.
+// video_format is 5; every other flag is 0. No method: only of a lent slice it is known that its bytes are below 256, as `sps` needs at the end.
 #[tactic(auto, using(crate::proofs::Fields::lengths))]
 fn put_vui(payload: &mut [u8], place: usize) -> usize
     requires { place + length sps_tail ≤ bit_count payload.old }
@@ -172,7 +170,7 @@ fn put_vui(payload: &mut [u8], place: usize) -> usize
     bits::put_bits(payload, place, 16, 0x9B01)
 }
 
-// A payload: the first `len` of the bytes, and zeros behind them.
+// A payload: the first `len` of the bytes, and zeros behind them. No heap: fixed bytes with a length.
 #[derive(Clone, Copy)]
 pub struct Payload {
     pub bytes: [u8; 32],
@@ -218,7 +216,7 @@ pub fn is_pps(payload: &[u8]) -> bool
     payload == pps().as_slice()
 }
 
-// The number of the code at a place and the place behind it; zeros where no code stands, as `guessed` says, since the payload is compared as a whole.
+// The number of the code at a place and the place behind it; zeros where no code stands, as the definition `guessed` says: what is read is compared as a whole.
 fn code_at(payload: &[u8], place: usize) -> (u32, usize)
     ensures { (result.0 ≡ number payload.now place) × (result.1 ≡ behind payload.now place) }
 {
@@ -226,13 +224,11 @@ fn code_at(payload: &[u8], place: usize) -> (u32, usize)
 }
 
 // Whether the bit at a place is set, which none behind the end is.
+#[tactic(auto, using(crate::proofs::Read::bit_past))]
 fn flag_at(payload: &[u8], place: usize) -> bool
     ensures { result ≡ eqb (get_or (bits_of payload.now) place 0) 1 }
 {
-    if payload.len() <= place / 8 {
-        return false;
-    }
-    bits::bit_at(payload, place) == 1
+    place / 8 < payload.len() && bits::bit_at(payload, place) == 1
 }
 
 // What the profile, and the bit that chroma_format_idc begins with, say of a picture of this size.
@@ -348,26 +344,16 @@ fn guess(payload: &[u8]) -> Size
 pub fn read_sps(payload: &[u8], level: u8) -> Option<Session>
     ensures { sps_read result ≡ read_sps level payload.now }
 {
-    if payload.len() < 7 {
-        return None;
-    }
-    if 32 < payload.len() {
+    if payload.len() < 7 || 32 < payload.len() {
         return None;
     }
     let size = guess(payload);
-    if 16384 < size.width {
-        return None;
-    }
-    if 16384 < size.height {
-        return None;
-    }
-    let s = form_in(payload, size.width as u32, size.height as u32);
+    let width = u32::try_from(size.width).ok()?;
+    let height = u32::try_from(size.height).ok()?;
+    let s = form_in(payload, width, height);
     if !s.is_accepted() {
         return None;
     }
     let form = sps(s, level);
-    if payload == &form.bytes[..form.len] {
-        return Some(s);
-    }
-    None
+    (payload == &form.bytes[..form.len]).then_some(s)
 }
