@@ -2,6 +2,7 @@ pub mod Judge
 pub mod Heads
 pub mod Bands
 pub mod Samples
+pub mod Refusals
 pub mod Read
 pub mod ReadCode
 pub mod Counted

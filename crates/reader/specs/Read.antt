@@ -1,6 +1,6 @@
--- The reader's call as the code has it (paper 01, "Reading a take"): the turn of the walk (crate nal_unit, Calls) with the reader's judge.
+-- The reader's call as the code has it: the turn of the walk (crate nal_unit, Calls) with the reader's judge.
 --     Told, told, told_of     an answer without its samples, which go to the planes: of the walk, and of the code
---     number_told             paper 01's number of an answer, 0 where it is no refusal
+--     number_told             the number of an answer that is a refusal, 0 where it is none
 --     held_of                 the parameter sets that are held
 --     room_of, rooms          the lengths of the lent planes
 --     plane_length            the length of a plane for a picture while h is held: its visible rows, stored tight
@@ -9,7 +9,8 @@
 --     Reads                   what a call answers and leaves
 --     reads_one               which is one thing: two answers of one call are the same, and so are the planes
 -- Assumes nothing.
-use Rattle.std.specs.Prelude.{◌≡◌, refl, List, [], ◌++◌, Bool, cond, ℕ, ◌+◌, ltb, eqb, length, drop}
+use Rattle.std.specs.Prelude.{◌≡◌, refl, Some, None, List, [], ◌++◌, Bool, cond, ℕ, ◌+◌, ltb, eqb, length, drop}
+use Rattle.std.specs.Prelude.{Option as Held_option}
 use Rattle.std.proofs.Common.{sym, ap, ◌∙◌}
 use Rattle.std.proofs.Math.Option.{Option, none, some}
 use Rattle.nal_unit.specs.Calls.{Say, ended, astray, said, at, Turn, turn}
@@ -20,13 +21,13 @@ use Rattle.ycbcr_image.specs.declared.Kind.TheVariants.{Mono, Colour}
 use Rattle.ycbcr_image.specs.declared.Session.{Session}
 use Rattle.ycbcr_image.specs.Form.{form_of}
 use Rattle.ycbcr_image.specs.Sizes.{Sequence, sequence_of, session_one, tight_length}
-use Rattle.reader.specs.declared.HeldSps.{HeldSps}
-use Rattle.reader.specs.declared.HeldSps.TheVariants.{Missing, Size}
 use Rattle.reader.specs.declared.HeldSets.{HeldSets}
 use Rattle.reader.specs.declared.Reader.{Reader}
+use Rattle.reader.specs.declared.Refusal.{Refusal}
 use Rattle.reader.specs.declared.Answer.{Answer}
 use Rattle.reader.specs.declared.Answer.TheVariants.{End, Sps, Pps, Picture, Refused}
 use Rattle.reader.specs.declared.Step.{Step}
+use Rattle.reader.specs.Refusals.{number, named, named-number}
 use Rattle.reader.specs.Judge.{Held, Samples, Word, sps, pps, picture, refused, counted, judge}
 
 -- the end; a sequence parameter set, a picture parameter set and a picture at an offset; a refusal at an offset
@@ -54,7 +55,7 @@ told_of End = over
 told_of (Sps o s) = sps_at o (sequence_of s)
 told_of (Pps o) = pps_at o
 told_of (Picture o) = picture_at o
-told_of (Refused n o) = refused_at o n
+told_of (Refused r o) = refused_at o (number r)
 
 abbrev pub number_told : Told → ℕ
 number_told over = 0
@@ -63,9 +64,9 @@ number_told (pps_at o) = 0
 number_told (picture_at o) = 0
 number_told (refused_at o n) = n
 
-abbrev pub sps_of : HeldSps → Option Sequence
-sps_of Missing = none
-sps_of (Size s) = some (sequence_of s)
+abbrev pub sps_of : Held_option Session → Option Sequence
+sps_of None = none
+sps_of (Some s) = some (sequence_of s)
 
 abbrev pub held_of : HeldSets → Held
 held_of h = record { sps = sps_of h.sps; pps = h.pps }
@@ -126,30 +127,30 @@ answer_in over = End
 answer_in (sps_at o q) = Sps o (session_in q)
 answer_in (pps_at o) = Pps o
 answer_in (picture_at o) = Picture o
-answer_in (refused_at o n) = Refused n o
+answer_in (refused_at o n) = Refused (named n) o
 
 answer_back : (a : Answer) → answer_in (told_of a) ≡ a
 answer_back End = refl
 answer_back (Sps o s) = ap (λ (t : Session). Sps o t) (session_back s)
 answer_back (Pps o) = refl
 answer_back (Picture o) = refl
-answer_back (Refused n o) = refl
+answer_back (Refused r o) = ap (λ (q : Refusal). Refused q o) (named-number r)
 
-abbrev sps_in : Option Sequence → HeldSps
-sps_in none = Missing
-sps_in (some q) = Size (session_in q)
+abbrev sps_in : Option Sequence → Held_option Session
+sps_in none = None
+sps_in (some q) = Some (session_in q)
 
-sps_back : (h : HeldSps) → sps_in (sps_of h) ≡ h
-sps_back Missing = refl
-sps_back (Size s) = ap Size (session_back s)
+sps_back : (h : Held_option Session) → sps_in (sps_of h) ≡ h
+sps_back None = refl
+sps_back (Some s) = ap (λ (t : Session). Some t) (session_back s)
 
 step_one : (r t : Step) → told_of r.answer ≡ told_of t.answer → r.reader.place ≡ t.reader.place → held_of r.reader.sets ≡ held_of t.reader.sets → r ≡ t
 step_one r t a p h = of (sym (answer_back _) ∙ (ap answer_in a ∙ answer_back _)) p (sym (sps_back _) ∙ (ap (λ (k : Held). sps_in k.sps) h ∙ sps_back _)) (ap (λ (k : Held). k.pps) h)
   where
-    made : Answer → ℕ → HeldSps → Bool → Step
+    made : Answer → ℕ → Held_option Session → Bool → Step
     made a p s b = record { answer = a; reader = record { place = p; sets = record { sps = s; pps = b } } }
 
-    of : {a a' : Answer} {p p' : ℕ} {s s' : HeldSps} {b b' : Bool} → a ≡ a' → p ≡ p' → s ≡ s' → b ≡ b' → made a p s b ≡ made a' p' s' b'
+    of : {a a' : Answer} {p p' : ℕ} {s s' : Held_option Session} {b b' : Bool} → a ≡ a' → p ≡ p' → s ≡ s' → b ≡ b' → made a p s b ≡ made a' p' s' b'
     of a p s b = rw (a, p, s, b) refl
 
 pub reads_one : {s : List ℕ} {b : Reader} {y cb cr : List ℕ} {r t : Step} {y' cb' cr' y'' cb'' cr'' : List ℕ} → Reads s b y cb cr r y' cb' cr' → Reads s b y cb cr t y'' cb'' cr''

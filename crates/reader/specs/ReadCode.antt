@@ -3,7 +3,8 @@
 --     Shown                 the same, and the planes are what the verdict makes of them
 --     spared h q            h where q is a possible size and kind, else nothing
 -- Assumes nothing.
-use Rattle.std.specs.Prelude.{◌≡◌, List, [], ◌∷◌, Bool, not, ◌||◌, ℕ, ◌+◌, ◌-◌, ◌≤◌, ◌<◌, ltb, length, take, drop, get_or}
+use Rattle.std.specs.Prelude.{◌≡◌, Some, None, List, [], ◌∷◌, Bool, not, ◌||◌, ℕ, ◌+◌, ◌-◌, ◌≤◌, ◌<◌, ltb, length, take, drop, get_or}
+use Rattle.std.specs.Prelude.{Option as Held_option}
 use Rattle.std.proofs.Math.Path.{refl, sym}
 use Rattle.std.proofs.Common.{ap, ◌∙◌, true≢false, length-drop, drop_of_length-le}
 use Rattle.std.proofs.Math.Bool.{true, false, cond, and-eq-true_iff}
@@ -20,9 +21,6 @@ use Rattle.nal_unit.specs.StartCode.{next, code_is, next_there, next_le}
 use Rattle.nal_unit.specs.Unescape.{fault}
 use Rattle.nal_unit.specs.Walk.{blank, end, meet, meet-nil, meet-stray, meet_end}
 use Rattle.nal_unit.specs.Scan.{meet_at}
-use Rattle.parameter_sets.specs.declared.SpsRead.{SpsRead}
-use Rattle.parameter_sets.specs.declared.SpsRead.TheVariants.{Sps, NotForm}
-use Rattle.parameter_sets.specs.Answers.{sps_read}
 use Rattle.parameter_sets.specs.Sps.{base_level}
 use Rattle.parameter_sets.specs.Pps.{pps_payload}
 use Rattle.parameter_sets.specs.Read.{read_sps}
@@ -34,15 +32,15 @@ use Rattle.ycbcr_image.specs.declared.Session.{Session}
 use Rattle.ycbcr_image.specs.Form.{mb_bytes}
 use Rattle.ycbcr_image.specs.Sizes.{Sequence, sequence_of, visible_height, visible_row_bytes, tight_length}
 use Rattle.ycbcr_image.specs.Refusals.{accepted, session_bad}
-use Rattle.reader.specs.declared.HeldSps.TheVariants.{Missing, Size}
 use Rattle.reader.specs.declared.HeldSets.{HeldSets}
 use Rattle.reader.specs.declared.Reader.{Reader}
+use Rattle.reader.specs.declared.Refusal.TheVariants.{Stray}
 use Rattle.reader.specs.declared.Answer.TheVariants.{End, Refused}
 use Rattle.reader.specs.declared.Step.{Step}
 use Rattle.reader.specs.Judge.{Held, nothing, Samples, Word, sps, pps, picture, refused, possible, session-possible, counted, keep, sps_verdict, pps_verdict, short, samples_of, formless, picture_verdict, held_verdict, unit_verdict, judge}
 use Rattle.reader.specs.Heads.{payload_at}
 use Rattle.reader.specs.Samples.{Rooms, PlanesTook}
-use Rattle.reader.specs.Read.{told_of, word_at, held_of, room_of, rooms, plane_length, handed_by, laid, Reads}
+use Rattle.reader.specs.Read.{told_of, word_at, sps_of, held_of, room_of, rooms, plane_length, handed_by, laid, Reads}
 
 pub record Judged (v : Verdict Held Word) (p o n : ℕ) (r : Step) : Type 0 where
   pub answer : told_of r.answer ≡ word_at o v.word
@@ -79,16 +77,16 @@ pub spared_no : (h : Held) (q : Session) {b : Bool} → b ≡ accepted (sequence
 unfolding spared possible
 spared_no h q e t = rw (sym e ∙ t) refl
 
-pub counted_none : (h : HeldSets) → h.sps ≡ Missing → held_of h ≡ counted (held_of h)
+pub counted_none : (h : HeldSets) → h.sps ≡ None → held_of h ≡ counted (held_of h)
 unfolding counted
 counted_none h e = rw e refl
 
-pub counted-size : (h : HeldSets) {q : Session} {r : Held} → h.sps ≡ Size q → r ≡ spared (held_of h) (sequence_of q) → r ≡ counted (held_of h)
+pub counted-size : (h : HeldSets) {q : Session} {r : Held} → h.sps ≡ Some q → r ≡ spared (held_of h) (sequence_of q) → r ≡ counted (held_of h)
 unfolding counted spared
 counted-size h e f = rw e (rw e at f)
 
 -- what counts is possible
-pub counted-fit : (h : Held) (c : HeldSets) {q : Session} → held_of c ≡ counted h → c.sps ≡ Size q → accepted (sequence_of q) ≡ true
+pub counted-fit : (h : Held) (c : HeldSets) {q : Session} → held_of c ≡ counted h → c.sps ≡ Some q → accepted (sequence_of q) ≡ true
 unfolding counted possible
 counted-fit h c {q} e f = go h.sps refl
   where
@@ -117,21 +115,21 @@ compare-other held q h e t = rw (sym e ∙ t) refl
 pub compare_same : (held q : Sequence) (h : Held) {b : Bool} → b ≡ session_bad held q → b ≡ false → keep h (sps q) ≡ cond (session_bad held q) (keep h (refused 15)) (keep h (sps q))
 compare_same held q h e t = rw (sym e ∙ t) refl
 
-pub sps-new : (h : Held) (q : Sequence) (c : HeldSets) → held_of c ≡ counted h → c.sps ≡ Missing
+pub sps-new : (h : Held) (q : Sequence) (c : HeldSets) → held_of c ≡ counted h → c.sps ≡ None
     → record { word = sps q; held = record { sps = some q; pps = c.pps }; stay = false } ≡ sps_verdict h (counted h) (some q)
 unfolding sps_verdict
 sps-new h q c e f = rw (← e, f) refl
 
-pub sps-held : (h : Held) (q : Sequence) (c : HeldSets) {s : Session} → held_of c ≡ counted h → c.sps ≡ Size s
+pub sps-held : (h : Held) (q : Sequence) (c : HeldSets) {s : Session} → held_of c ≡ counted h → c.sps ≡ Some s
     → cond (session_bad (sequence_of s) q) (keep h (refused 15)) (keep h (sps q)) ≡ sps_verdict h (counted h) (some q)
 unfolding sps_verdict
 sps-held h q c e f = rw (← e, f) refl
 
-pub sps_not : (h c : Held) {r : SpsRead} {m : Option Sequence} → sps_read r ≡ m → r ≡ NotForm → keep h (refused 14) ≡ sps_verdict h c m
+pub sps_not : (h c : Held) {r : Held_option Session} {m : Option Sequence} → sps_of r ≡ m → r ≡ None → keep h (refused 14) ≡ sps_verdict h c m
 unfolding sps_verdict
 sps_not h c e f = rw (← e, f) refl
 
-pub sps-form : (h c : Held) {r : SpsRead} {m : Option Sequence} {q : Session} → sps_read r ≡ m → r ≡ Sps q → sps_verdict h c (some (sequence_of q)) ≡ sps_verdict h c m
+pub sps-form : (h c : Held) {r : Held_option Session} {m : Option Sequence} {q : Session} → sps_of r ≡ m → r ≡ Some q → sps_verdict h c (some (sequence_of q)) ≡ sps_verdict h c m
 sps-form h c e f = rw (← e, f) refl
 
 pub pps_not : (h c : Held) (X : List ℕ) {b : Bool} → b ≡ same X pps_payload → b ≡ false → keep h (refused 14) ≡ pps_verdict h c X
@@ -254,20 +252,20 @@ pub plane_none : (h : Held) (k : ℕ) → 2 < k → 0 ≡ plane_length h k
 unfolding plane_length
 plane_none h k l = rw (lt-ltb 2 k l) refl
 
-pub plane-missing : (h : Held) (c : HeldSets) (k : ℕ) → k ≤ 2 → held_of c ≡ counted h → c.sps ≡ Missing → 0 ≡ plane_length h k
+pub plane-missing : (h : Held) (c : HeldSets) (k : ℕ) → held_of c ≡ counted h → c.sps ≡ None → 0 ≡ plane_length h k
 unfolding plane_length
-plane-missing h c k l e f = rw (le-ltb 2 k l, ← e, f) refl
+plane-missing h c k e f = either k 2 (λ l. rw (le-ltb 2 k l, ← e, f) refl) (λ l. rw (lt-ltb 2 k l) refl)
 
-pub plane-sized : (h : Held) (c : HeldSets) (k : ℕ) {q : Session} → k ≤ 2 → held_of c ≡ counted h → c.sps ≡ Size q → tight_length (sequence_of q) k ≡ plane_length h k
+pub plane-sized : (h : Held) (c : HeldSets) (k : ℕ) {q : Session} → k ≤ 2 → held_of c ≡ counted h → c.sps ≡ Some q → tight_length (sequence_of q) k ≡ plane_length h k
 unfolding plane_length
 plane-sized h c k l e f = rw (le-ltb 2 k l, ← e, f) refl
 
 -- 16, and both sets
-pub held-missing : (room : ℕ → ℕ) (h : Held) (c : HeldSets) (X : List ℕ) → held_of c ≡ counted h → c.sps ≡ Missing → keep h (refused 16) ≡ held_verdict room h (counted h) X
+pub held-missing : (room : ℕ → ℕ) (h : Held) (c : HeldSets) (X : List ℕ) → held_of c ≡ counted h → c.sps ≡ None → keep h (refused 16) ≡ held_verdict room h (counted h) X
 unfolding held_verdict
 held-missing room h c X e f = rw (← e, f) refl
 
-pub held-sized : (room : ℕ → ℕ) (h : Held) (c : HeldSets) (X : List ℕ) {q : Session} → held_of c ≡ counted h → c.sps ≡ Size q
+pub held-sized : (room : ℕ → ℕ) (h : Held) (c : HeldSets) (X : List ℕ) {q : Session} → held_of c ≡ counted h → c.sps ≡ Some q
     → held_verdict room h (record { sps = some (sequence_of q); pps = c.pps }) X ≡ held_verdict room h (counted h) X
 held-sized room h c X e f = rw (← e, f) refl
 
@@ -349,7 +347,7 @@ module _ (s : List ℕ) (b : Reader) (y cb cr : List ℕ) where
   reads-beyond l = reads_end (rw (drop_of_length-le s l) meet-nil)
 
   pub reads-stray : {k : ℕ} {t : Bool} → k ≡ b.place + next (drop b.place s) → t ≡ blank (take (k - b.place) (drop b.place s)) → t ≡ false
-      → Reads s b y cb cr (record { answer = Refused 10 b.place; reader = record { place = k; sets = b.sets } }) y cb cr
+      → Reads s b y cb cr (record { answer = Refused Stray b.place; reader = record { place = k; sets = b.sets } }) y cb cr
   unfolding at
   reads-stray {k} e f z =
       let n : k - b.place ≡ next (drop b.place s) = omega (arith, e) in
