@@ -3,7 +3,7 @@
 --     Shown                 the same, and the planes are what the verdict makes of them
 --     spared h q            h where q is a possible size and kind, else nothing
 -- Assumes nothing.
-use Rattle.std.specs.Prelude.{◌≡◌, Some, None, List, [], ◌∷◌, Bool, not, ◌||◌, ℕ, ◌+◌, ◌-◌, ◌≤◌, ◌<◌, ltb, length, take, drop, get_or}
+use Rattle.std.specs.Prelude.{◌≡◌, Some, None, is_none, List, [], ◌∷◌, Bool, not, ◌||◌, ℕ, ◌+◌, ◌-◌, ◌≤◌, ◌<◌, ltb, length, take, drop, get_or}
 use Rattle.std.specs.Prelude.{Option as Held_option}
 use Rattle.std.proofs.Math.Path.{refl, sym}
 use Rattle.std.proofs.Common.{ap, ◌∙◌, true≢false, length-drop, drop_of_length-le}
@@ -312,16 +312,16 @@ module _ (room : ℕ → ℕ) (h : Held) {s : List ℕ} {o : ℕ} {r : UnitScan}
       let p = part_step s o (r.stop - o) 0 k (omega arith) in
       g.unit ∙ rw (add-zero o) at p
 
-  pub unit_bad : o < r.stop → o ≤ length s → {b : Bool} → b ≡ r.bad → b ≡ true → keep h (refused 12) ≡ judge room h (unit_of (drop o s))
+  pub unit_bad : o < r.stop → o ≤ length s → r.calm ≡ None → keep h (refused 12) ≡ judge room h (unit_of (drop o s))
   unfolding judge
-  unit_bad l i e t =
-      let f : fault (unit_of (drop o s)) ≡ true = sym g.bad ∙ (sym e ∙ t) in
+  unit_bad l i e =
+      let f : fault (unit_of (drop o s)) ≡ true = sym g.bad ∙ ap (λ (m : Held_option ℕ). is_none m) e in
       rw (opens l i) (rw (rw (opens l i) at f) refl)
 
-  pub unit_good : o < r.stop → o ≤ length s → {b : Bool} → b ≡ r.bad → b ≡ false → unit_verdict room h (get_or s o 0) (payload_at s o r.stop) ≡ judge room h (unit_of (drop o s))
+  pub unit_good : o < r.stop → o ≤ length s → {k : ℕ} → r.calm ≡ Some k → unit_verdict room h (get_or s o 0) (payload_at s o r.stop) ≡ judge room h (unit_of (drop o s))
   unfolding judge payload_at
-  unit_good l i e t =
-      let f : fault (unit_of (drop o s)) ≡ false = sym g.bad ∙ (sym e ∙ t) in
+  unit_good l i e =
+      let f : fault (unit_of (drop o s)) ≡ false = sym g.bad ∙ ap (λ (m : Held_option ℕ). is_none m) e in
       rw (opens l i) (rw (rw (opens l i) at f) refl)
 
 -- ---- the call

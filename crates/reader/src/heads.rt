@@ -64,8 +64,8 @@ pub fn right(s: &[u8], o: usize, e: usize, c: usize, q: Session) -> bool
     requires e_value { ins_count s.now c e ≡ 0 }
     ensures { result ≡ right (header_of 0 0) (mb_bytes (sequence_of q).form) (mbs_in (sequence_of q)) (payload_at s.now o e) }
 {
-    let size = ycbcr_image::mb_bytes(q);
-    let n = ycbcr_image::mbs_height(q) * ycbcr_image::mbs_width(q);
+    let size = q.mb_bytes();
+    let n = q.mbs_height() * q.mbs_width();
     if !bytes_at(s, o + 1, e, b"\x88\x84\x28\x68") {
         return false;
     }

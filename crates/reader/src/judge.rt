@@ -24,7 +24,7 @@ impl HeldSets {
         ensures { held_of result ≡ counted (held_of self) }
     {
         match self.sps {
-            Some(q) if !ycbcr_image::size_accepted(q) => HeldSets {
+            Some(q) if !q.is_accepted() => HeldSets {
                 sps: None,
                 pps: false,
             },
@@ -73,7 +73,7 @@ impl Unit<'_> {
                 pps: counted.pps,
             },
             Some(held) => {
-                if ycbcr_image::session_bad(held, sps) {
+                if held.differs(sps) {
                     return self.refused(Refusal::OtherThanHeld);
                 }
                 self.sets
@@ -166,9 +166,9 @@ fn is_short(q: Session, y: &[u8], cb: &[u8], cr: &[u8]) -> bool
     requires { accepted (sequence_of q) ≡ true }
     ensures { result ≡ short (rooms y.now cb.now cr.now) (sequence_of q) }
 {
-    y.len() < ycbcr_image::tight_len(q, 0)
-        || cb.len() < ycbcr_image::tight_len(q, 1)
-        || cr.len() < ycbcr_image::tight_len(q, 2)
+    y.len() < q.tight_len(0)
+        || cb.len() < q.tight_len(1)
+        || cr.len() < q.tight_len(2)
 }
 
 // The unit whose bytes begin at `begin`, behind its start code, in a call at `place`: 11 and 12 first, then by its header, 13 where it is none of the three.
@@ -196,13 +196,13 @@ pub fn read_unit(
     if found.stop <= begin {
         return unit.refused(Refusal::Empty);
     }
-    if found.bad {
+    let Some(calm) = found.calm else {
         return unit.refused(Refusal::Escaping);
-    }
+    };
     match take[begin] {
         0x67 => unit.sps(),
         0x68 => unit.pps(),
-        0x25 => unit.picture(found.calm, y, cb, cr),
+        0x25 => unit.picture(calm, y, cb, cr),
         _ => unit.refused(Refusal::Header),
     }
 }

@@ -15,14 +15,14 @@ use nal_unit::scan;
 use ycbcr_image::Session;
 
 // The parameter sets held, the sequence parameter set as its size and kind.
-#[derive(Clone, Copy)]
+#[derive(Clone, Copy, Debug, PartialEq, Eq)]
 pub struct HeldSets {
     pub sps: Option<Session>,
     pub pps: bool,
 }
 
 // Where a reading stands. Any value is one; a held size or kind that no accepted parameter set gives counts as holding nothing.
-#[derive(Clone, Copy)]
+#[derive(Clone, Copy, Debug, PartialEq, Eq)]
 pub struct Reader {
     pub place: usize,
     pub sets: HeldSets,
@@ -64,7 +64,7 @@ impl Refusal {
 
 // What a call answers, with the offset where the bytes begin that it is about: the end, a sequence parameter set with its size and kind, a picture parameter
 // set, a picture, whose samples are in the planes, or a refusal.
-#[derive(Clone, Copy)]
+#[derive(Clone, Copy, Debug, PartialEq, Eq)]
 pub enum Answer {
     End,
     Sps(usize, Session),
@@ -74,7 +74,7 @@ pub enum Answer {
 }
 
 // The answer of a call, and where the reading stands then.
-#[derive(Clone, Copy)]
+#[derive(Clone, Copy, Debug, PartialEq, Eq)]
 pub struct Step {
     pub answer: Answer,
     pub reader: Reader,
@@ -87,7 +87,7 @@ impl HeldSets {
         ensures { result ≡ plane_length (held_of self) p }
     {
         match self.counted().sps {
-            Some(q) if p <= 2 => ycbcr_image::tight_len(q, p),
+            Some(q) if p <= 2 => q.tight_len(p),
             _ => 0,
         }
     }

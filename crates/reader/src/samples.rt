@@ -79,10 +79,10 @@ fn take_block(
     requires k_in_bounds { (n + block_bytes (sequence_of q).form k ≤ length (payload_at s.now o e)) × (tight_length (sequence_of q) k ≤ length out.old) }
     ensures { BlockTook s.now o e n (sequence_of q) k my mx out.old out.new result }
 {
-    let bw = ycbcr_image::block_row_bytes(q, k);
-    let bh = ycbcr_image::mb_height(q, k);
-    let vb = ycbcr_image::visible_row_bytes(q, k);
-    let vh = ycbcr_image::visible_rows(q, k);
+    let bw = q.block_row_bytes(k);
+    let bh = q.mb_height(k);
+    let vb = q.visible_row_bytes(k);
+    let vh = q.visible_rows(k);
     let w = least(bw, vb - mx * bw);
     let h = least(bh, vh - my * bh);
     let r = take_rows(s, o, e, p, n, w, bw, vb, h, out, my * bh * vb + mx * bw);
@@ -111,11 +111,11 @@ fn take_macroblock(
     requires rooms { Rooms (sequence_of q) y.old cb.old cr.old }
     ensures { MbsTook s.now o e (sequence_of q) (my * pic_width_in_mbs (sequence_of q) + mx) (my * pic_width_in_mbs (sequence_of q) + mx + 1) y.old y.new cb.old cb.new cr.old cr.new result }
 {
-    let luma = ycbcr_image::mb_height(q, 0) * ycbcr_image::block_row_bytes(q, 0);
-    let chroma = ycbcr_image::mb_height(q, 1) * ycbcr_image::block_row_bytes(q, 1);
+    let luma = q.mb_height(0) * q.block_row_bytes(0);
+    let chroma = q.mb_height(1) * q.block_row_bytes(1);
     let a = taking::skip(s, p, e, 2);
     let b = take_block(s, o, e, a, n + 2, q, 0, my, mx, y);
-    if ycbcr_image::is_monochrome(q) {
+    if q.is_monochrome() {
         return b;
     }
     let c = take_block(s, o, e, b, n + 2 + luma, q, 1, my, mx, cb);
@@ -141,8 +141,8 @@ fn take_mbs(
     requires rooms { Rooms (sequence_of q) y.old cb.old cr.old }
     ensures { MbsTook s.now o e (sequence_of q) (my * pic_width_in_mbs (sequence_of q)) (my * pic_width_in_mbs (sequence_of q) + pic_width_in_mbs (sequence_of q)) y.old y.new cb.old cb.new cr.old cr.new result }
 {
-    let mw = ycbcr_image::mbs_width(q);
-    let size = ycbcr_image::mb_bytes(q);
+    let mw = q.mbs_width();
+    let size = q.mb_bytes();
     let mut a = p;
     let mut m = n;
     let mut mx = 0;
@@ -223,11 +223,11 @@ fn take_band(
     requires k_bound { (k < 3) × (tight_length (sequence_of q) k ≤ length out.old) }
     ensures { Steps (sequence_of q) k (payload_at s.now o e) (my * pic_width_in_mbs (sequence_of q)) (my * pic_width_in_mbs (sequence_of q) + pic_width_in_mbs (sequence_of q)) out.old out.new }
 {
-    let size = ycbcr_image::mb_bytes(q);
-    let bw = ycbcr_image::block_row_bytes(q, k);
-    let bh = ycbcr_image::mb_height(q, k);
-    let vb = ycbcr_image::visible_row_bytes(q, k);
-    let vh = ycbcr_image::visible_rows(q, k);
+    let size = q.mb_bytes();
+    let bw = q.block_row_bytes(k);
+    let bh = q.mb_height(k);
+    let vb = q.visible_row_bytes(k);
+    let vh = q.visible_rows(k);
     let h = least(bh, vh - my * bh);
     band(
         s,
@@ -262,11 +262,11 @@ fn take_calm(
     requires q_value { eqb (ins_count s.now p (p + pic_width_in_mbs (sequence_of q) * (2 + mb_bytes (sequence_of q).form))) 0 ≡ true }
     ensures { MbsTook s.now o e (sequence_of q) (my * pic_width_in_mbs (sequence_of q)) (my * pic_width_in_mbs (sequence_of q) + pic_width_in_mbs (sequence_of q)) y.old y.new cb.old cb.new cr.old cr.new result }
 {
-    let luma = ycbcr_image::mb_height(q, 0) * ycbcr_image::block_row_bytes(q, 0);
-    let chroma = ycbcr_image::mb_height(q, 1) * ycbcr_image::block_row_bytes(q, 1);
-    let row = ycbcr_image::mbs_width(q) * (2 + ycbcr_image::mb_bytes(q));
+    let luma = q.mb_height(0) * q.block_row_bytes(0);
+    let chroma = q.mb_height(1) * q.block_row_bytes(1);
+    let row = q.mbs_width() * (2 + q.mb_bytes());
     take_band(s, o, e, p, q, 0, 0, my, y);
-    if ycbcr_image::is_monochrome(q) {
+    if q.is_monochrome() {
         return p + row;
     }
     take_band(s, o, e, p, q, 1, luma, my, cb);
@@ -282,8 +282,8 @@ fn dark(s: &[u8], o: usize, e: usize, c: usize, p: usize, n: usize, q: Session, 
     requires e_value { ins_count s.now c e ≡ 0 }
     ensures { 0 < result → DarkRow s.now e (payload_at s.now o e) (mb_bytes (sequence_of q).form) (head_place (sequence_of q) (my * pic_width_in_mbs (sequence_of q))) (pic_width_in_mbs (sequence_of q)) result }
 {
-    let mw = ycbcr_image::mbs_width(q);
-    let size = ycbcr_image::mb_bytes(q);
+    let mw = q.mbs_width();
+    let size = q.mb_bytes();
     let mut a = p;
     let mut mx = 0;
     while mx < mw {
@@ -306,10 +306,10 @@ fn zero_band(s: &[u8], o: usize, e: usize, r: usize, q: Session, k: u32, my: usi
     requires k_in_bounds { tight_length (sequence_of q) k ≤ length out.old }
     ensures { Steps (sequence_of q) k (payload_at s.now o e) (my * pic_width_in_mbs (sequence_of q)) (my * pic_width_in_mbs (sequence_of q) + pic_width_in_mbs (sequence_of q)) out.old out.new }
 {
-    let bw = ycbcr_image::block_row_bytes(q, k);
-    let bh = ycbcr_image::mb_height(q, k);
-    let vb = ycbcr_image::visible_row_bytes(q, k);
-    let vh = ycbcr_image::visible_rows(q, k);
+    let bw = q.block_row_bytes(k);
+    let bh = q.mb_height(k);
+    let vb = q.visible_row_bytes(k);
+    let vh = q.visible_rows(k);
     let h = least(bh, vh - my * bh);
     taking::write_zeros(out, my * bh * vb, h * vb);
 }
@@ -332,7 +332,7 @@ fn take_dark(
     ensures { MbsTook s.now o e (sequence_of q) (my * pic_width_in_mbs (sequence_of q)) (my * pic_width_in_mbs (sequence_of q) + pic_width_in_mbs (sequence_of q)) y.old y.new cb.old cb.new cr.old cr.new r }
 {
     zero_band(s, o, e, r, q, 0, my, y);
-    if ycbcr_image::is_monochrome(q) {
+    if q.is_monochrome() {
         return;
     }
     zero_band(s, o, e, r, q, 1, my, cb);
@@ -368,7 +368,7 @@ fn take_line(
         take_dark(s, o, e, r, q, my, y, cb, cr);
         return r;
     }
-    let row = ycbcr_image::mbs_width(q) * (2 + ycbcr_image::mb_bytes(q));
+    let row = q.mbs_width() * (2 + q.mb_bytes());
     if taking::calm(s, p, row) {
         return take_calm(s, o, e, p, n, q, my, y, cb, cr);
     }
@@ -392,8 +392,8 @@ pub fn samples(
     requires e_value { ins_count s.now c e ≡ 0 }
     ensures { PlanesTook (sequence_of q) (payload_at s.now o e) y.old y.new cb.old cb.new cr.old cr.new }
 {
-    let mh = ycbcr_image::mbs_height(q);
-    let row = ycbcr_image::mbs_width(q) * (2 + ycbcr_image::mb_bytes(q));
+    let mh = q.mbs_height();
+    let row = q.mbs_width() * (2 + q.mb_bytes());
     let mut a = taking::skip(s, o + 1, e, 2);
     let mut n = 2;
     let mut my = 0;

@@ -14,11 +14,11 @@ returns-then-found-begin c =
     let g = c.unit_scan-found.ensures in
     shown-moved g.end (shown-refused a.y.now a.cb.now a.cr.now (unit-empty (rooms a.y.now a.cb.now a.cr.now) (held_of a.sets) g c.if-found-begin.true) c.refused.ensures)
 
-pub returns-then-found : goal.returns-then-found
-returns-then-found c =
+pub returns-in_default : goal.returns-in_default
+returns-in_default c =
     let a = c.args in
     let g = c.unit_scan-found.ensures in
-    shown-moved g.end (shown-refused a.y.now a.cb.now a.cr.now (unit_bad (rooms a.y.now a.cb.now a.cr.now) (held_of a.sets) g c.if-found-begin.false c.requires.1 refl c.if-found.true) c.refused-then-found.ensures)
+    shown-moved g.end (shown-refused a.y.now a.cb.now a.cr.now (unit_bad (rooms a.y.now a.cb.now a.cr.now) (held_of a.sets) g c.if-found-begin.false c.requires.1 c.in_default.is) c.refused-in_default.ensures)
 
 pub returns-in-103 : goal.returns-in-103
 returns-in-103 c =
@@ -28,7 +28,7 @@ returns-in-103 c =
     let room = rooms a.y.now a.cb.now a.cr.now in
     shown-moved g.end
     (shown_as
-    (header-sps room (held_of a.sets) X c.in-103.is ∙ unit_good room (held_of a.sets) g c.if-found-begin.false c.requires.1 refl c.if-found.false)
+    (header-sps room (held_of a.sets) X c.in-103.is ∙ unit_good room (held_of a.sets) g c.if-found-begin.false c.requires.1 c.in-Some.is)
     (shown-sps a.y.now a.cb.now a.cr.now (held_of a.sets) (counted (held_of a.sets)) (read_sps base_level X) c.sps.ensures))
 
 pub returns-in-104 : goal.returns-in-104
@@ -39,7 +39,7 @@ returns-in-104 c =
     let room = rooms a.y.now a.cb.now a.cr.now in
     shown-moved g.end
     (shown_as
-    (header_pps room (held_of a.sets) X c.in-104.is ∙ unit_good room (held_of a.sets) g c.if-found-begin.false c.requires.1 refl c.if-found.false)
+    (header_pps room (held_of a.sets) X c.in-104.is ∙ unit_good room (held_of a.sets) g c.if-found-begin.false c.requires.1 c.in-Some.is)
     (shown_pps a.y.now a.cb.now a.cr.now (held_of a.sets) (counted (held_of a.sets)) X c.pps.ensures))
 
 pub returns-in-37 : goal.returns-in-37
@@ -50,11 +50,11 @@ returns-in-37 c =
     let room = rooms a.y.now a.cb.now a.cr.now in
     shown-moved g.end
     (shown_as
-    (header_picture room (held_of a.sets) X c.in-37.is ∙ unit_good room (held_of a.sets) g c.if-found-begin.false c.requires.1 refl c.if-found.false)
+    (header_picture room (held_of a.sets) X c.in-37.is ∙ unit_good room (held_of a.sets) g c.if-found-begin.false c.requires.1 c.in-Some.is)
     c.picture.ensures)
 
-pub returns-in_default : goal.returns-in_default
-returns-in_default c =
+pub returns-in_default-2 : goal.returns-in_default-2
+returns-in_default-2 c =
     let a = c.args in
     let g = c.unit_scan-found.ensures in
     let X = payload_at a.take.now a.begin c.unit_scan-found.result.stop in
@@ -62,5 +62,5 @@ returns-in_default c =
     let x = get_or a.take.now a.begin 0 in
     shown-moved g.end
     (shown-refused a.y.now a.cb.now a.cr.now
-    (header-other room (held_of a.sets) X (omega arith) (omega arith) (omega arith) ∙ unit_good room (held_of a.sets) g c.if-found-begin.false c.requires.1 refl c.if-found.false)
-    c.refused-in_default.ensures)
+    (header-other room (held_of a.sets) X (omega arith) (omega arith) (omega arith) ∙ unit_good room (held_of a.sets) g c.if-found-begin.false c.requires.1 c.in-Some.is)
+    c.refused-in_default-2.ensures)

@@ -12,14 +12,14 @@ pub returns-in-None : goal.returns-in-None
 returns-in-None c =
     judged_as (sps-new (held_of c.args.self.sets) _ _ c.counted-counted.ensures c.in-None.is ∙ sps-form _ _ c.sps_at.ensures c.in-Some.is) record { answer = refl; place = refl; held = refl }
 
-pub returns-then-session_bad : goal.returns-then-session_bad
-returns-then-session_bad c =
+pub returns-then-differs : goal.returns-then-differs
+returns-then-differs c =
     judged_as
-    (compare-other _ _ _ c.session_bad.ensures c.if-session_bad.true ∙ (sps-held (held_of c.args.self.sets) _ _ c.counted-counted.ensures c.in-Some-sps.is ∙ sps-form _ _ c.sps_at.ensures c.in-Some.is))
-    c.refused-then-session_bad.ensures
+    (compare-other _ _ _ c.differs.ensures c.if-differs.true ∙ (sps-held (held_of c.args.self.sets) _ _ c.counted-counted.ensures c.in-Some-sps.is ∙ sps-form _ _ c.sps_at.ensures c.in-Some.is))
+    c.refused-then-differs.ensures
 
-pub returns-else-session_bad : goal.returns-else-session_bad
-returns-else-session_bad c =
+pub returns-else-differs : goal.returns-else-differs
+returns-else-differs c =
     judged_as
-    (compare_same _ _ _ c.session_bad.ensures c.if-session_bad.false ∙ (sps-held (held_of c.args.self.sets) _ _ c.counted-counted.ensures c.in-Some-sps.is ∙ sps-form _ _ c.sps_at.ensures c.in-Some.is))
+    (compare_same _ _ _ c.differs.ensures c.if-differs.false ∙ (sps-held (held_of c.args.self.sets) _ _ c.counted-counted.ensures c.in-Some-sps.is ∙ sps-form _ _ c.sps_at.ensures c.in-Some.is))
     record { answer = refl; place = refl; held = refl }
