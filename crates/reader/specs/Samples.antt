@@ -8,9 +8,11 @@
 --     MbsTaking                 macroblocks that are being taken
 --     PlanesTook                the planes begin with the visible samples, stored tight, and are what they were behind them
 -- Assumes nothing.
-use Rattle.std.specs.Prelude.{◌≡◌, refl, List, ◌++◌, ℕ, zero, suc, ◌+◌, ◌-◌, ◌*◌, ◌/◌, ◌%◌, ◌≤◌, ◌<◌, min, true, false, eqb, length, drop, get_or, replicate}
-use Rattle.std.proofs.Common.{sym, ap, ◌∙◌, zero-mul, add-mul, mul-le-mul, mul-le-mul_left, mul-le-mul_right, div-add-mod', arith, inl, inr}
+use Rattle.std.specs.Prelude.{◌≡◌, refl, List, ◌++◌, ◌⊎◌, ℕ, zero, suc, ◌+◌, ◌-◌, ◌*◌, ◌/◌, ◌%◌, ◌≤◌, ◌<◌, min, true, false, eqb, length, drop, get_or, replicate}
+use Rattle.std.proofs.Common.{sym, ap, ◌∙◌, length-drop, zero-mul, add-mul, mul-le-mul, mul-le-mul_left, mul-le-mul_right, div-add-mod', arith, inl, inr}
+use Rattle.std.proofs.Math.Nat.{ℕ_set}
 use Rattle.std.proofs.Math.Arith.{digits_lt}
+use Rattle.std.proofs.Props.{props}
 use Rattle.std.proofs.lemmas.List.{length-replicate, get_or-replicate}
 use Rattle.lists.specs.Fill.{splice, splice-length}
 use Rattle.lists.specs.Part.{part, part_at}
@@ -28,6 +30,15 @@ use Rattle.ycbcr_image.specs.Sizes.{Sequence, next_high, pic_width_in_mbs, frame
 use Rattle.ycbcr_image.specs.Accepted.{Fine, payload_most, tight_most}
 use Rattle.reader.specs.Heads.{payload_at}
 use Rattle.reader.specs.Bands.{Banded, Shown, Band, lines_of, lines_even, band_in, lines_are, dark_are, band_filled}
+
+-- that a size is an accepted one has one proof at most
+pub depth_prop : (d : ℕ) → IsProp ((d ≡ 8) ⊎ (d ≡ 12))
+depth_prop d (inl e) (inl f) = ap inl (ℕ_set d 8 e f)
+depth_prop d (inl e) (inr f) = absurd (omega arith)
+depth_prop d (inr e) (inl f) = absurd (omega arith)
+depth_prop d (inr e) (inr f) = ap inr (ℕ_set d 12 e f)
+
+pub ruleset fine_props = (depth_prop, props)
 
 -- h rows of bw bytes of the payload from its byte n on were taken, the first w bytes of each, into a plane that held d and holds d'; r is the place behind them
 pub record RowsTook (s : List ℕ) (o e n : ℕ) (d : List ℕ) (a w bw step h : ℕ) (d' : List ℕ) (r : ℕ) : Type 0 where
@@ -230,6 +241,10 @@ pub record Rooms (q : Sequence) (y cb cr : List ℕ) : Type 0 where
 unfoldable pub head_place : Sequence → ℕ → ℕ
 head_place q i = 2 + i * (2 + mb_bytes q.form)
 
+-- the samples of plane k's block in it begin at this one
+abbrev pub block_place : Sequence → ℕ → ℕ → ℕ
+block_place q i k = head_place q i + 2 + off_in q.form k
+
 -- What is visible of the macroblocks from i to j was taken into the planes, and r is the place behind them.
 pub record MbsTook (s : List ℕ) (o e : ℕ) (q : Sequence) (i j : ℕ) (y y' cb cb' cr cr' : List ℕ) (r : ℕ) : Type 0 where
   pub in_y : Steps q 0 (payload_at s o e) i j y y'
@@ -253,19 +268,27 @@ block-steps {q = q} g p my mx l m h k e t =
     record { long = t.fills.long; step = λ f. fill-block (fits g p l) my mx _ _ (shown-high g p my m h) (shown-row g p mx m k) refl refl (rw e at t.fills) f }
 
 -- the macroblock is there, with a byte behind it
-pub mb_there : {q : Sequence} (X : List ℕ) → Fine q → length X ≡ picture_length q → (my mx n : ℕ) → my < frame_height_in_mbs q → mx < pic_width_in_mbs q
-    → n ≡ head_place q (my * pic_width_in_mbs q + mx) → n + 2 + mb_bytes q.form < length X
+pub mb_there : {q : Sequence} (X : List ℕ) → Fine q → length X ≡ picture_length q → (my mx : ℕ) → my < frame_height_in_mbs q → mx < pic_width_in_mbs q
+    → head_place q (my * pic_width_in_mbs q + mx) + 2 + mb_bytes q.form < length X
 unfolding head_place picture_length
-mb_there {q} X g l my mx n h k e =
+mb_there {q} X g l my mx h k =
     let i : my * pic_width_in_mbs q + mx < mbs_in q = digits_lt h k in
-    omega (arith, l, e, mul-le-mul_right (2 + mb_bytes q.form) i)
+    omega (arith, l, mul-le-mul_right (2 + mb_bytes q.form) i)
 
 -- the bytes of its blocks
 pub blocks_all : {q : Sequence} → Fine q → block_bytes q.form 0 + (block_bytes q.form 1 + block_bytes q.form 2) ≡ mb_bytes q.form
 blocks_all g = sym g.known.mb-blocks
 
+-- so each is there
+pub block-there : {q : Sequence} (X : List ℕ) → Fine q → length X ≡ picture_length q → (k my mx : ℕ) → k < 3 → my < frame_height_in_mbs q → mx < pic_width_in_mbs q
+    → block_place q (my * pic_width_in_mbs q + mx) k + block_bytes q.form k ≤ length X
+block-there X g l zero my mx m h w = omega (arith, mb_there X g l my mx h w, blocks_all g)
+block-there X g l (suc zero) my mx m h w = omega (arith, mb_there X g l my mx h w, blocks_all g)
+block-there X g l (suc (suc zero)) my mx m h w = omega (arith, mb_there X g l my mx h w, blocks_all g)
+block-there X g l (suc (suc (suc k))) my mx m h w = absurd (omega arith)
+
 -- monochrome has no chroma: nothing of it is to be taken
-nothing-taken : {q : Sequence} {X : List ℕ} (p i m : ℕ) (out : List ℕ) → mono q.form ≡ true → Steps q (suc p) X i (i + m) out out
+pub nothing-taken : {q : Sequence} {X : List ℕ} (p i m : ℕ) (out : List ℕ) → mono q.form ≡ true → Steps q (suc p) X i (i + m) out out
 unfolding visible_height in_plane spot
 nothing-taken {q} p i m out e =
     record { long = refl; step = λ f. fill-skip (record { on = omega arith; none = λ j l a b. let z : j < 0 = rw (e, zero-mul (visible_row_bytes q (suc p))) at l in omega arith }) f }
@@ -282,6 +305,13 @@ bytes_as f p a b = rw (a, b) refl
 pub bytes_most : {q : Sequence} → Fine q → (p : ℕ) {h w : ℕ} → h ≡ block_height q.form p → w ≡ block_row_bytes q.form p → h * w ≤ 384
 bytes_most {q} g p a b = rw (a, b) (mul-le-mul (block-high_most q.form p) (g.plane p).block-row_most)
 
+-- the byte of the payload that stands at a place
+pub place_byte : {s : List ℕ} {e : ℕ} {X : List ℕ} {n p : ℕ} → Stands s e X n p → n ≤ length X → length X - length (kept s p e) ≡ n
+place_byte {X = X} {n = n} g l = omega (arith, ap length g.left, length-drop n X)
+
+pub rows-took_as : {s : List ℕ} {o e n m : ℕ} {d : List ℕ} {a w bw step h : ℕ} {d' : List ℕ} {r : ℕ} → n ≡ m → RowsTook s o e n d a w bw step h d' r → RowsTook s o e m d a w bw step h d' r
+rows-took_as e t = rw e at t
+
 -- a place by an equal number
 pub stands_as : {s : List ℕ} {e : ℕ} {X : List ℕ} {n m p : ℕ} → n ≡ m → Stands s e X n p → Stands s e X m p
 stands_as e g = rw e at g
@@ -297,33 +327,43 @@ pub in_colour : (f : Form) (p : ℕ) → mono f ≡ false → p < 3 → p < plan
 in_colour f p e l = rw (planes-colour f e) l
 
 -- the macroblock was taken: in monochrome its one block, in colour its three
-pub mono-took : {s : List ℕ} {o e n : ℕ} {q : Sequence} {y y' : List ℕ} {r : ℕ} (cb cr : List ℕ) → Fine q → mono q.form ≡ true → (my mx : ℕ) → my < frame_height_in_mbs q → mx < pic_width_in_mbs q
-    → n ≡ head_place q (my * pic_width_in_mbs q + mx) → BlockTook s o e (n + 2) q 0 my mx y y' r
-    → MbsTook s o e q (my * pic_width_in_mbs q + mx) (my * pic_width_in_mbs q + mx + 1) y y' cb cb cr cr r
+block_spot : (q : Sequence) (i k : ℕ) → block_place q i k ≡ spot (grid_in q k) i (off_in q.form k)
 unfolding head_place spot
-mono-took {n = n} {q = q} cb cr g m my mx h k e t =
+block_spot q i k = omega arith
+
+pub mono-took : {s : List ℕ} {o e : ℕ} {q : Sequence} {y y' : List ℕ} {r : ℕ} (cb cr : List ℕ) → Fine q → mono q.form ≡ true → (my mx : ℕ) → my < frame_height_in_mbs q → mx < pic_width_in_mbs q
+    → BlockTook s o e (block_place q (my * pic_width_in_mbs q + mx) 0) q 0 my mx y y' r
+    → MbsTook s o e q (my * pic_width_in_mbs q + mx) (my * pic_width_in_mbs q + mx + 1) y y' cb cb cr cr r
+unfolding head_place
+mono-took {q = q} cb cr g m my mx h k t =
     let i : ℕ = my * pic_width_in_mbs q + mx in
-    let z : n + 2 + block_bytes q.form 0 ≡ 2 + (i + 1) * (2 + mb_bytes q.form) = omega (arith, e, blocks_all g, no_bytes q.form 0 m, no_bytes q.form 1 m) in
+    let z : block_place q i 0 + block_bytes q.form 0 ≡ head_place q (i + 1) = omega (arith, blocks_all g, no_bytes q.form 0 m, no_bytes q.form 1 m) in
     record {
-      in_y = block-steps g 0 my mx (omega arith) (planes_some q.form) h k (omega (arith, e)) t;
+      in_y = block-steps g 0 my mx (omega arith) (planes_some q.form) h k (block_spot q i 0) t;
       in_cb = nothing-taken 0 i 1 cb m;
       in_cr = nothing-taken 1 i 1 cr m;
       at = rw z at t.at;
     }
 
-pub colour-took : {s : List ℕ} {o e n luma chroma : ℕ} {q : Sequence} {y y' cb cb' cr cr' : List ℕ} {a b r : ℕ} → Fine q → mono q.form ≡ false → (my mx : ℕ) → my < frame_height_in_mbs q
-    → mx < pic_width_in_mbs q → n ≡ head_place q (my * pic_width_in_mbs q + mx) → luma ≡ block_bytes q.form 0 → chroma ≡ block_bytes q.form 1
-    → BlockTook s o e (n + 2) q 0 my mx y y' a → BlockTook s o e (n + 2 + luma) q 1 my mx cb cb' b → BlockTook s o e (n + 2 + luma + chroma) q 2 my mx cr cr' r
+-- behind a block stands the next
+pub block_next : {s X : List ℕ} {e r : ℕ} (q : Sequence) (i k : ℕ) → k < 2 → Stands s e X (block_place q i k + block_bytes q.form k) r → Stands s e X (block_place q i (k + 1)) r
+block_next q i zero l g = let z : block_place q i 0 + block_bytes q.form 0 ≡ block_place q i 1 = omega arith in stands_as z g
+block_next q i (suc zero) l g = let z : block_place q i 1 + block_bytes q.form 1 ≡ block_place q i 2 = omega arith in stands_as z g
+block_next q i (suc (suc k)) l g = absurd (omega arith)
+
+pub colour-took : {s : List ℕ} {o e : ℕ} {q : Sequence} {y y' cb cb' cr cr' : List ℕ} {a b r : ℕ} → Fine q → mono q.form ≡ false → (my mx : ℕ) → my < frame_height_in_mbs q
+    → mx < pic_width_in_mbs q → BlockTook s o e (block_place q (my * pic_width_in_mbs q + mx) 0) q 0 my mx y y' a
+    → BlockTook s o e (block_place q (my * pic_width_in_mbs q + mx) 1) q 1 my mx cb cb' b → BlockTook s o e (block_place q (my * pic_width_in_mbs q + mx) 2) q 2 my mx cr cr' r
     → MbsTook s o e q (my * pic_width_in_mbs q + mx) (my * pic_width_in_mbs q + mx + 1) y y' cb cb' cr cr' r
-unfolding head_place spot
-colour-took {n = n} {luma = luma} {chroma = chroma} {q = q} g m my mx h k e u v ty tb tr =
+unfolding head_place
+colour-took {q = q} g m my mx h k ty tb tr =
     let i : ℕ = my * pic_width_in_mbs q + mx in
     let three : planes q.form ≡ 3 = planes-colour q.form m in
-    let z : n + 2 + luma + chroma + block_bytes q.form 2 ≡ 2 + (i + 1) * (2 + mb_bytes q.form) = omega (arith, e, u, v, blocks_all g) in
+    let z : block_place q i 2 + block_bytes q.form 2 ≡ head_place q (i + 1) = omega (arith, blocks_all g) in
     record {
-      in_y = block-steps g 0 my mx (omega arith) (planes_some q.form) h k (omega (arith, e)) ty;
-      in_cb = block-steps g 1 my mx (omega arith) (rw three (omega arith)) h k (omega (arith, e, u)) tb;
-      in_cr = block-steps g 2 my mx (omega arith) (rw three (omega arith)) h k (omega (arith, e, u, v)) tr;
+      in_y = block-steps g 0 my mx (omega arith) (planes_some q.form) h k (block_spot q i 0) ty;
+      in_cb = block-steps g 1 my mx (omega arith) (rw three (omega arith)) h k (block_spot q i 1) tb;
+      in_cr = block-steps g 2 my mx (omega arith) (rw three (omega arith)) h k (block_spot q i 2) tr;
       at = rw z at tr.at;
     }
 
@@ -340,20 +380,20 @@ row-long {q} X g l my h f a b =
     let k : my * pic_width_in_mbs q + pic_width_in_mbs q ≤ mbs_in q = omega (arith, mul-le-mul_right (pic_width_in_mbs q) h) in
     rw (a, b) (omega (arith, l, f, mul-le-mul_right (2 + mb_bytes q.form) k))
 
-pub row_there : {q : Sequence} {s X : List ℕ} {e n p r : ℕ} → Fine q → length X ≡ picture_length q → (my : ℕ) → my < frame_height_in_mbs q
-    → n ≡ head_place q (my * pic_width_in_mbs q) → r ≡ pic_width_in_mbs q * (2 + mb_bytes q.form) → Stands s e X n p → p + r ≤ e
-row_there {q} {s} {X} {e} {p = p} {r = r} g l my h f w t =
-    kept_room s p e r t.high t.inside (stands_room r t (rw w (row-long X g l my h f refl refl)))
+pub row_there : {q : Sequence} {s X : List ℕ} {e p r : ℕ} → Fine q → length X ≡ picture_length q → (my : ℕ) → my < frame_height_in_mbs q
+    → r ≡ pic_width_in_mbs q * (2 + mb_bytes q.form) → Stands s e X (head_place q (my * pic_width_in_mbs q)) p → p + r ≤ e
+row_there {q} {s} {X} {e} {p} {r} g l my h w t =
+    kept_room s p e r t.high t.inside (stands_room r t (rw w (row-long X g l my h refl refl refl)))
 
 -- and no byte of it is an inserted one
-pub row-stands : {q : Sequence} {s X : List ℕ} {e n p r : ℕ} (i : ℕ) → Stands s e X n p → n ≡ head_place q i → r ≡ pic_width_in_mbs q * (2 + mb_bytes q.form) → p + r ≤ e
+pub row-stands : {q : Sequence} {s X : List ℕ} {e p r : ℕ} (i : ℕ) → Stands s e X (head_place q i) p → r ≡ pic_width_in_mbs q * (2 + mb_bytes q.form) → p + r ≤ e
     → eqb (ins_count s p (p + r)) 0 ≡ true → RowStands s X q i p × Stands s e X (head_place q (i + pic_width_in_mbs q)) (p + r)
 unfolding head_place
-row-stands {q} {s} {X} {e} {n} {p} {r} i g f w l t =
+row-stands {q} {s} {X} {e} {p} {r} i g w l t =
     let c = stands-calm r r g (omega arith) l t in
-    let z : n + r ≡ 2 + (i + pic_width_in_mbs q) * (2 + mb_bytes q.form) = omega (arith, f, w) in (
+    let z : head_place q i + r ≡ head_place q (i + pic_width_in_mbs q) = omega (arith, w) in (
       record {
-        same = λ k h. ap (λ (m : ℕ). get_or X (m + k) 0) (sym f) ∙ sym (part_at X n r k (omega (arith, w))) ∙ (ap (λ (v : List ℕ). get_or v k 0) c.0 ∙ part_at s p r k (omega (arith, w)));
+        same = λ k h. sym (part_at X (head_place q i) r k (omega (arith, w))) ∙ (ap (λ (v : List ℕ). get_or v k 0) c.0 ∙ part_at s p r k (omega (arith, w)));
         inside = omega (arith, g.inside, w);
       },
       rw z at c.1,
@@ -401,6 +441,10 @@ band_steps {q} {s} {X} {d} {d'} {k} {my} {bw} {bh} {vb} {vh} {h} {p} {size} {off
     rw (u, v, b.row, b.wide) (lines_are (fits g k m) (shown_by g l b e) (band_by k r) (omega (arith, g.known.mb_most))) in
     band_took g m l b e (laid-length t (omega (arith, o, band_fits b e (omega (arith, b.row, (g.present k l).block-row)) w))) (rw c at t.bytes)
 
+-- all samples of a row of macroblocks, the first of which is i, are zero
+abbrev pub IsDark : List ℕ → Sequence → ℕ → Type 0
+IsDark X q i = (x t : ℕ) → x < pic_width_in_mbs q → t < mb_bytes q.form → get_or X (head_place q i + (x * (2 + mb_bytes q.form) + (2 + t))) 0 ≡ 0
+
 -- the same where all samples of the row are zero
 pub dark_fits : {q : Sequence} {k my bw bh vb vh h len : ℕ} → BlockBy q k my 0 bw bh vb vh → h ≡ min bh (vh - my * bh) → tight_length q k ≤ len → my * bh * vb + h * vb ≤ len
 dark_fits {my = my} {bh = bh} {vb = vb} {vh = vh} {h = h} b e l =
@@ -408,8 +452,7 @@ dark_fits {my = my} {bh = bh} {vb = vb} {vh = vh} {h = h} b e l =
     omega (arith, b.tight, mul-le-mul_right vb a)
 
 pub dark_steps : {q : Sequence} {X d d' : List ℕ} {k my bw bh vb vh h : ℕ} → Fine q → k < 3 → k < planes q.form → BlockBy q k my 0 bw bh vb vh
-    → ((x t : ℕ) → x < pic_width_in_mbs q → t < mb_bytes q.form → get_or X (head_place q (my * pic_width_in_mbs q) + (x * (2 + mb_bytes q.form) + (2 + t))) 0 ≡ 0)
-    → h ≡ min bh (vh - my * bh) → tight_length q k ≤ length d → d' ≡ splice d (my * bh * vb) (replicate (h * vb) 0)
+    → IsDark X q (my * pic_width_in_mbs q) → h ≡ min bh (vh - my * bh) → tight_length q k ≤ length d → d' ≡ splice d (my * bh * vb) (replicate (h * vb) 0)
     → Steps q k X (my * pic_width_in_mbs q) (my * pic_width_in_mbs q + pic_width_in_mbs q) d d'
 dark_steps {q} {X} {d} {k = k} {my = my} {bh = bh} {vb = vb} {h = h} g m l b r e w t =
     let o = splice-length d (my * bh * vb) (replicate (h * vb) 0) (omega (arith, length-replicate {A = ℕ} (h * vb) 0, dark_fits b e w)) in
@@ -461,6 +504,10 @@ pub mono-row : {s : List ℕ} {o e : ℕ} {q : Sequence} {y y' : List ℕ} {r : 
     → Stands s e (payload_at s o e) (head_place q (i + pic_width_in_mbs q)) r → MbsTook s o e q i (i + pic_width_in_mbs q) y y' cb cb cr cr r
 mono-row {q = q} i cb cr m t a = record { in_y = t; in_cb = nothing-taken 0 i (pic_width_in_mbs q) cb m; in_cr = nothing-taken 1 i (pic_width_in_mbs q) cr m; at = a }
 
+pub colour-row : {s : List ℕ} {o e : ℕ} {q : Sequence} {y y' cb cb' cr cr' : List ℕ} {i j r : ℕ} → Steps q 0 (payload_at s o e) i j y y' → Steps q 1 (payload_at s o e) i j cb cb'
+    → Steps q 2 (payload_at s o e) i j cr cr' → Stands s e (payload_at s o e) (head_place q j) r → MbsTook s o e q i j y y' cb cb' cr cr' r
+colour-row t u v a = record { in_y = t; in_cb = u; in_cr = v; at = a }
+
 -- the planes keep their room
 pub rooms-kept : {s : List ℕ} {o e : ℕ} {q : Sequence} {i j : ℕ} {y y' cb cb' cr cr' : List ℕ} {r : ℕ} → Rooms q y cb cr → MbsTook s o e q i j y y' cb cb' cr cr' r → Rooms q y' cb' cr'
 rooms-kept g t =
@@ -477,35 +524,31 @@ pub took_more : {s : List ℕ} {o e : ℕ} {q : Sequence} {i j k : ℕ} {y y' y'
 took_more g h =
     record { in_y = steps_more g.in_y h.in_y; in_cb = steps_more g.in_cb h.in_cb; in_cr = steps_more g.in_cr h.in_cr; at = h.at }
 
--- The macroblocks from i to j are taken, up to the place a; what stands before the next begins at the payload's byte m.
-pub record MbsTaking (s : List ℕ) (o e : ℕ) (q : Sequence) (i j most : ℕ) (y y' cb cb' cr cr' : List ℕ) (a m : ℕ) : Type 0 where
+-- The macroblocks from i to j are taken, up to the place a.
+pub record MbsTaking (s : List ℕ) (o e : ℕ) (q : Sequence) (i j : ℕ) (y y' cb cb' cr cr' : List ℕ) (a : ℕ) : Type 0 where
   pub took : MbsTook s o e q i j y y' cb cb' cr cr' a
   pub rooms : Rooms q y' cb' cr'
-  pub count : m ≡ head_place q j
-  pub within : j ≤ most
 
-pub mbs_start : {s : List ℕ} {o e p n : ℕ} (q : Sequence) (i most : ℕ) (y cb cr : List ℕ) → i ≤ most → Stands s e (payload_at s o e) n p → n ≡ head_place q i → Rooms q y cb cr
-    → MbsTaking s o e q i i most y y cb cb cr cr p n
-mbs_start q i most y cb cr l g e r = record { took = took_none q i y cb cr (stands_as e g); rooms = r; count = e; within = l }
+pub mbs_start : {s : List ℕ} {o e p : ℕ} (q : Sequence) (i : ℕ) (y cb cr : List ℕ) → Stands s e (payload_at s o e) (head_place q i) p → Rooms q y cb cr
+    → MbsTaking s o e q i i y y cb cb cr cr p
+mbs_start q i y cb cr g r = record { took = took_none q i y cb cr g; rooms = r }
 
--- k macroblocks more, of w bytes together
-pub mbs_turn : {s : List ℕ} {o e : ℕ} {q : Sequence} {i j most : ℕ} {y y' y'' cb cb' cb'' cr cr' cr'' : List ℕ} {a m a' : ℕ} (k w : ℕ) → MbsTaking s o e q i j most y y' cb cb' cr cr' a m
-    → j + k ≤ most → w ≡ k * (2 + mb_bytes q.form) → MbsTook s o e q j (j + k) y' y'' cb' cb'' cr' cr'' a' → MbsTaking s o e q i (j + k) most y y'' cb cb'' cr cr'' a' (m + w)
-unfolding head_place
-mbs_turn k w g l e t =
-    record { took = took_more g.took t; rooms = rooms-kept g.rooms t; count = omega (arith, g.count, e); within = l }
+-- some macroblocks more
+pub mbs_turn : {s : List ℕ} {o e : ℕ} {q : Sequence} {i j k : ℕ} {y y' y'' cb cb' cb'' cr cr' cr'' : List ℕ} {a a' : ℕ} → MbsTaking s o e q i j y y' cb cb' cr cr' a
+    → MbsTook s o e q j k y' y'' cb' cb'' cr' cr'' a' → MbsTaking s o e q i k y y'' cb cb'' cr cr'' a'
+mbs_turn g t = record { took = took_more g.took t; rooms = rooms-kept g.rooms t }
 
 -- the same by equal numbers
-pub mbs_as : {s : List ℕ} {o e : ℕ} {q : Sequence} {i j j' most : ℕ} {y y' cb cb' cr cr' : List ℕ} {a m : ℕ} → j ≡ j' → MbsTaking s o e q i j most y y' cb cb' cr cr' a m
-    → MbsTaking s o e q i j' most y y' cb cb' cr cr' a m
+pub mbs_as : {s : List ℕ} {o e : ℕ} {q : Sequence} {i j j' : ℕ} {y y' cb cb' cr cr' : List ℕ} {a : ℕ} → j ≡ j' → MbsTaking s o e q i j y y' cb cb' cr cr' a
+    → MbsTaking s o e q i j' y y' cb cb' cr cr' a
 mbs_as e g = rw e at g
 
-pub mbs_end : {s : List ℕ} {o e : ℕ} {q : Sequence} {i j j' most : ℕ} {y y' cb cb' cr cr' : List ℕ} {a m : ℕ} → MbsTaking s o e q i j most y y' cb cb' cr cr' a m → j ≡ j'
+pub mbs_end : {s : List ℕ} {o e : ℕ} {q : Sequence} {i j j' : ℕ} {y y' cb cb' cr cr' : List ℕ} {a : ℕ} → MbsTaking s o e q i j y y' cb cb' cr cr' a → j ≡ j'
     → MbsTook s o e q i j' y y' cb cb' cr cr' a
 mbs_end g e = rw e at g.took
 
 -- what stands before the first macroblock
-pub first_head : (q : Sequence) → 2 ≡ head_place q 0
+pub first_head : (q : Sequence) → 0 + 2 ≡ head_place q 0
 unfolding head_place
 first_head q = omega arith
 

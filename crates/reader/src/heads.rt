@@ -1,4 +1,4 @@
-// Whether a picture's payload is formed as paper 01 says ("The bits of a take"; 18): the slice header with the first mb_type, what stands before every other
+// Whether a picture's payload is formed as the writer forms it (refusal 18): the slice header with the first mb_type, what stands before every other
 // macroblock, the last byte. No sample is looked at. The unit of the payload begins with its header byte at the place o and ends at e, and no inserted byte
 // stands in it from the place c on.
 ghost use Rattle.std.specs.Prelude.{◌≡◌, ◌&&◌, ◌+◌, ◌-◌, ◌*◌, ◌≤◌, ◌<◌, eqb, length, get_or};
@@ -23,14 +23,12 @@ fn bytes_at(s: &[u8], p: usize, e: usize, v: &[u8]) -> bool
     requires v_in_bounds { length v.now ≤ length (kept s.now p e) }
     ensures { result ≡ begins v.now (kept s.now p e) }
 {
-    let mut q = p;
-    let mut k = 0;
-    while k < v.len() {
-        if taking::byte_at(s, q, e) != v[k] {
+    let mut p = p;
+    for b in v {
+        if taking::byte_at(s, p, e) != *b {
             return false;
         }
-        q = taking::past(s, q, e);
-        k += 1;
+        p = taking::past(s, p, e);
     }
     true
 }
@@ -42,19 +40,16 @@ fn heads(s: &[u8], o: usize, e: usize, c: usize, p: usize, size: usize, n: usize
     requires e_value { ins_count s.now c e ≡ 0 }
     ensures { result ≡ all_below (n - 1) (head_stands (header_of 0 0) size (payload_at s.now o e)) && eqb (get_or (payload_at s.now o e) (length (payload_at s.now o e) - 1) 0) 128 }
 {
-    let last = n - 1;
-    let mut q = p;
-    let mut i = 0;
-    while i < last {
-        q = taking::pass(s, q, e, c, size);
-        if !bytes_at(s, q, e, b"\x0d\0") {
+    let mut p = p;
+    for _i in 0..n - 1 {
+        p = taking::pass(s, p, e, c, size);
+        if !bytes_at(s, p, e, b"\x0d\0") {
             return false;
         }
-        q = taking::pass(s, q, e, c, 2);
-        i += 1;
+        p = taking::pass(s, p, e, c, 2);
     }
-    q = taking::pass(s, q, e, c, size);
-    taking::byte_at(s, q, e) == 128
+    p = taking::pass(s, p, e, c, size);
+    taking::byte_at(s, p, e) == 128
 }
 
 // Whether header, heads and last byte of a payload of the exact length are right: what 18 looks at beside the length.

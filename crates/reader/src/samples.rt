@@ -1,7 +1,6 @@
-// A picture's visible samples, taken from its unit into lent planes with tight rows (paper 01, "Reading a take"). The unit begins with its header byte at
-// the place o and ends at e, and no inserted byte stands in it from the place c on. A row of macroblocks without inserted bytes is taken line by line of
+// A picture's visible samples, taken from its unit into lent planes with tight rows. A row of macroblocks without inserted bytes is taken line by line of
 // each plane, so that a plane is written from its first byte to its last; so is one all samples of which are zero; another macroblock by macroblock.
-ghost use Rattle.std.specs.Prelude.{◌≡◌, true, ◌+◌, ◌*◌, ◌≤◌, ◌<◌, min, eqb, length};
+ghost use Rattle.std.specs.Prelude.{◌≡◌, true, ℕ, ◌+◌, ◌*◌, ◌≤◌, ◌<◌, eqb, length, IfSome};
 ghost use Rattle.nal_unit.specs.Kept.{ins_count};
 ghost use Rattle.nal_unit.specs.Taking.{Stands};
 ghost use Rattle.ycbcr_image.specs.Form.{planes, block_bytes, mb_bytes};
@@ -12,370 +11,276 @@ ghost use Rattle.slice.specs.Laid.{Laid};
 ghost use Rattle.slice.specs.Picture.{picture_length, off_in};
 ghost use Rattle.reader.specs.Heads.{UnitAt, payload_at};
 ghost use Rattle.reader.specs.Bands.{pieces, lines_of, Pieced, Banded};
-ghost use Rattle.reader.specs.Samples.{RowsTook, BlockTook, head_place, Rooms, MbsTook, Steps, RowStands, DarkRow, PlanesTook};
+ghost use Rattle.reader.specs.Samples.{fine_props, RowsTook, BlockTook, head_place, block_place, Rooms, MbsTook, Steps, RowStands, DarkRow, IsDark, PlanesTook};
 
 use nal_unit::{rows, taking};
 use slice::macroblock;
 use ycbcr_image::Session;
 
-// Takes h rows of bw bytes, which stand in the payload from its byte n on, at the place p of the unit: of each the first w bytes, into the output from the
-// place `at` on, `step` bytes from row to row. Answers the place behind them.
-fn take_rows(
-    s: &[u8],
-    o: usize,
-    e: usize,
-    p: usize,
-    n: usize,
-    w: usize,
-    bw: usize,
-    step: usize,
-    h: usize,
-    out: &mut [u8],
-    at: usize,
-) -> usize
-    requires stands { Stands s.now e (payload_at s.now o e) n p }
-    requires w_le_bw { (w ≤ bw) × (n + h * bw ≤ length (payload_at s.now o e)) }
-    requires w_in_bounds { (at + h * step + w ≤ length out.old + step) × (h * step ≤ length out.old) }
-    ensures { RowsTook s.now o e n out.old at w bw step h out.new result }
-{
-    let mut q = p;
-    let mut a = at;
-    let mut y = 0;
-    while y < h {
-        q = taking::take_row(s, q, e, w, out, a);
-        q = taking::skip(s, q, e, bw - w);
-        a += step;
-        y += 1;
-    }
-    q
-}
-
-// The lesser of two numbers.
-fn least(a: usize, b: usize) -> usize
-    ensures { result ≡ min a b }
-{
-    if a < b {
-        return a;
-    }
-    b
-}
-
-// Takes what is visible of plane k's block in macroblock row my and column mx; the block stands in the payload from its byte n on. Answers the place behind it.
-fn take_block(
-    s: &[u8],
-    o: usize,
-    e: usize,
-    p: usize,
-    n: usize,
-    q: Session,
-    k: u32,
-    my: usize,
-    mx: usize,
-    out: &mut [u8],
-) -> usize
-    requires stands { Stands s.now e (payload_at s.now o e) n p }
-    requires fine { (Fine (sequence_of q)) × (k < planes (sequence_of q).form) }
-    requires my_bound { (my < frame_height_in_mbs (sequence_of q)) × (mx < pic_width_in_mbs (sequence_of q)) }
-    requires k_in_bounds { (n + block_bytes (sequence_of q).form k ≤ length (payload_at s.now o e)) × (tight_length (sequence_of q) k ≤ length out.old) }
-    ensures { BlockTook s.now o e n (sequence_of q) k my mx out.old out.new result }
-{
-    let bw = q.block_row_bytes(k);
-    let bh = q.mb_height(k);
-    let vb = q.visible_row_bytes(k);
-    let vh = q.visible_rows(k);
-    let w = least(bw, vb - mx * bw);
-    let h = least(bh, vh - my * bh);
-    let r = take_rows(s, o, e, p, n, w, bw, vb, h, out, my * bh * vb + mx * bw);
-    taking::skip(s, r, e, (bh - h) * bw)
-}
-
-// Takes the visible samples of the macroblock in row my and column mx into the planes of its kind; what stands before its samples begins at the payload's
-// byte n. Answers the place behind it.
-fn take_macroblock(
-    s: &[u8],
-    o: usize,
-    e: usize,
-    p: usize,
-    n: usize,
-    q: Session,
-    my: usize,
-    mx: usize,
-    y: &mut [u8],
-    cb: &mut [u8],
-    cr: &mut [u8],
-) -> usize
-    requires stands { Stands s.now e (payload_at s.now o e) n p }
-    requires fine { (Fine (sequence_of q)) × (length (payload_at s.now o e) ≡ picture_length (sequence_of q)) }
-    requires my_bound { (my < frame_height_in_mbs (sequence_of q)) × (mx < pic_width_in_mbs (sequence_of q)) }
-    requires n_value { n ≡ head_place (sequence_of q) (my * pic_width_in_mbs (sequence_of q) + mx) }
-    requires rooms { Rooms (sequence_of q) y.old cb.old cr.old }
-    ensures { MbsTook s.now o e (sequence_of q) (my * pic_width_in_mbs (sequence_of q) + mx) (my * pic_width_in_mbs (sequence_of q) + mx + 1) y.old y.new cb.old cb.new cr.old cr.new result }
-{
-    let luma = q.mb_height(0) * q.block_row_bytes(0);
-    let chroma = q.mb_height(1) * q.block_row_bytes(1);
-    let a = taking::skip(s, p, e, 2);
-    let b = take_block(s, o, e, a, n + 2, q, 0, my, mx, y);
-    if q.is_monochrome() {
-        return b;
-    }
-    let c = take_block(s, o, e, b, n + 2 + luma, q, 1, my, mx, cb);
-    take_block(s, o, e, c, n + 2 + luma + chroma, q, 2, my, mx, cr)
-}
-
-// Takes the visible samples of the macroblocks of row my; what stands before the first begins at the payload's byte n.
-fn take_mbs(
-    s: &[u8],
-    o: usize,
-    e: usize,
-    p: usize,
-    n: usize,
-    q: Session,
-    my: usize,
-    y: &mut [u8],
-    cb: &mut [u8],
-    cr: &mut [u8],
-) -> usize
-    requires stands { Stands s.now e (payload_at s.now o e) n p }
-    requires fine { (Fine (sequence_of q)) × (length (payload_at s.now o e) ≡ picture_length (sequence_of q)) }
-    requires my_bound { (my < frame_height_in_mbs (sequence_of q)) × (n ≡ head_place (sequence_of q) (my * pic_width_in_mbs (sequence_of q))) }
-    requires rooms { Rooms (sequence_of q) y.old cb.old cr.old }
-    ensures { MbsTook s.now o e (sequence_of q) (my * pic_width_in_mbs (sequence_of q)) (my * pic_width_in_mbs (sequence_of q) + pic_width_in_mbs (sequence_of q)) y.old y.new cb.old cb.new cr.old cr.new result }
-{
-    let mw = q.mbs_width();
-    let size = q.mb_bytes();
-    let mut a = p;
-    let mut m = n;
-    let mut mx = 0;
-    while mx < mw {
-        a = take_macroblock(s, o, e, a, m, q, my, mx, y, cb, cr);
-        m += 2 + size;
-        mx += 1;
-    }
-    a
-}
-
-// Lays a line of a plane: `full` pieces of bw bytes, the first from the place p of s and each `unit` behind the last, and the first `rest` bytes of one more.
-fn line(
-    s: &[u8],
-    p: usize,
-    unit: usize,
-    bw: usize,
-    full: usize,
-    rest: usize,
-    out: &mut [u8],
-    at: usize,
-) -> usize
-    requires pieced { Pieced (length s.now) unit p bw full rest }
-    requires rest_in_bounds { at + (full * bw + rest) ≤ length out.old }
-    ensures { Laid out.old at (pieces s.now unit p bw full rest) out.new result }
-{
-    let a = macroblock::lay_rows(s, p, unit, bw, full, out, at);
-    if rest == 0 {
-        return a;
-    }
-    rows::copy(s, p + full * unit, rest, out, a);
-    a + rest
-}
-
-// Lays h lines, each bw bytes behind the one before it.
-fn band(
-    s: &[u8],
-    p: usize,
-    unit: usize,
-    bw: usize,
-    full: usize,
-    rest: usize,
-    h: usize,
-    out: &mut [u8],
-    at: usize,
-) -> usize
-    requires banded { Banded (length s.now) unit p bw full rest h }
-    requires rest_in_bounds { at + h * (full * bw + rest) ≤ length out.old }
-    ensures { Laid out.old at (cat (lines_of s.now unit p bw full rest) 0 h) out.new result }
-{
-    let mut q = p;
-    let mut a = at;
-    let mut y = 0;
-    while y < h {
-        a = line(s, q, unit, bw, full, rest, out, a);
-        q += bw;
-        y += 1;
-    }
-    a
-}
-
-// Takes what is visible of plane k in row my of macroblocks, which stands at the place p as it does in the payload; `off` bytes of a macroblock stand before
-// the plane's block.
-fn take_band(
-    s: &[u8],
-    o: usize,
-    e: usize,
-    p: usize,
-    q: Session,
-    k: u32,
-    off: usize,
-    my: usize,
-    out: &mut [u8],
-)
-    requires row_stands { RowStands s.now (payload_at s.now o e) (sequence_of q) (my * pic_width_in_mbs (sequence_of q)) p }
-    requires fine { (Fine (sequence_of q)) × (k < planes (sequence_of q).form) }
-    requires my_bound { (my < frame_height_in_mbs (sequence_of q)) × (off ≡ off_in (sequence_of q).form k) }
-    requires k_bound { (k < 3) × (tight_length (sequence_of q) k ≤ length out.old) }
-    ensures { Steps (sequence_of q) k (payload_at s.now o e) (my * pic_width_in_mbs (sequence_of q)) (my * pic_width_in_mbs (sequence_of q) + pic_width_in_mbs (sequence_of q)) out.old out.new }
-{
-    let size = q.mb_bytes();
-    let bw = q.block_row_bytes(k);
-    let bh = q.mb_height(k);
-    let vb = q.visible_row_bytes(k);
-    let vh = q.visible_rows(k);
-    let h = least(bh, vh - my * bh);
-    band(
-        s,
-        p + 2 + off,
-        2 + size,
-        bw,
-        vb / bw,
-        vb % bw,
-        h,
-        out,
-        my * bh * vb,
-    );
-}
-
-// Takes the visible samples of row my of macroblocks, which begins at the place p, among the bytes of which none is an inserted one.
-fn take_calm(
-    s: &[u8],
-    o: usize,
-    e: usize,
-    p: usize,
-    n: usize,
-    q: Session,
-    my: usize,
-    y: &mut [u8],
-    cb: &mut [u8],
-    cr: &mut [u8],
-) -> usize
-    requires stands { Stands s.now e (payload_at s.now o e) n p }
-    requires fine { (Fine (sequence_of q)) × (length (payload_at s.now o e) ≡ picture_length (sequence_of q)) }
-    requires my_bound { (my < frame_height_in_mbs (sequence_of q)) × (n ≡ head_place (sequence_of q) (my * pic_width_in_mbs (sequence_of q))) }
-    requires rooms { Rooms (sequence_of q) y.old cb.old cr.old }
-    requires q_value { eqb (ins_count s.now p (p + pic_width_in_mbs (sequence_of q) * (2 + mb_bytes (sequence_of q).form))) 0 ≡ true }
-    ensures { MbsTook s.now o e (sequence_of q) (my * pic_width_in_mbs (sequence_of q)) (my * pic_width_in_mbs (sequence_of q) + pic_width_in_mbs (sequence_of q)) y.old y.new cb.old cb.new cr.old cr.new result }
-{
-    let luma = q.mb_height(0) * q.block_row_bytes(0);
-    let chroma = q.mb_height(1) * q.block_row_bytes(1);
-    let row = q.mbs_width() * (2 + q.mb_bytes());
-    take_band(s, o, e, p, q, 0, 0, my, y);
-    if q.is_monochrome() {
-        return p + row;
-    }
-    take_band(s, o, e, p, q, 1, luma, my, cb);
-    take_band(s, o, e, p, q, 2, luma + chroma, my, cr);
-    p + row
-}
-
-// A place behind row my of macroblocks where all its samples are found to be zero, 0 where they are not.
-fn dark(s: &[u8], o: usize, e: usize, c: usize, p: usize, n: usize, q: Session, my: usize) -> usize
-    requires stands { Stands s.now e (payload_at s.now o e) n p }
-    requires fine { (Fine (sequence_of q)) × (length (payload_at s.now o e) ≡ picture_length (sequence_of q)) }
-    requires my_bound { (my < frame_height_in_mbs (sequence_of q)) × (n ≡ head_place (sequence_of q) (my * pic_width_in_mbs (sequence_of q))) }
-    requires e_value { ins_count s.now c e ≡ 0 }
-    ensures { 0 < result → DarkRow s.now e (payload_at s.now o e) (mb_bytes (sequence_of q).form) (head_place (sequence_of q) (my * pic_width_in_mbs (sequence_of q))) (pic_width_in_mbs (sequence_of q)) result }
-{
-    let mw = q.mbs_width();
-    let size = q.mb_bytes();
-    let mut a = p;
-    let mut mx = 0;
-    while mx < mw {
-        let b = taking::pass(s, a, e, c, 2);
-        let r = taking::zeros(s, b, e, size);
-        if r <= b {
-            return 0;
-        }
-        a = r;
-        mx += 1;
-    }
-    a
-}
-
-// Writes what is visible of plane k in row my of macroblocks, all samples of which are zero and which ends at the place r.
-fn zero_band(s: &[u8], o: usize, e: usize, r: usize, q: Session, k: u32, my: usize, out: &mut [u8])
-    requires dark_row { DarkRow s.now e (payload_at s.now o e) (mb_bytes (sequence_of q).form) (head_place (sequence_of q) (my * pic_width_in_mbs (sequence_of q))) (pic_width_in_mbs (sequence_of q)) r }
-    requires fine { (Fine (sequence_of q)) × (k < planes (sequence_of q).form) }
-    requires k_bound { (k < 3) × (my < frame_height_in_mbs (sequence_of q)) }
-    requires k_in_bounds { tight_length (sequence_of q) k ≤ length out.old }
-    ensures { Steps (sequence_of q) k (payload_at s.now o e) (my * pic_width_in_mbs (sequence_of q)) (my * pic_width_in_mbs (sequence_of q) + pic_width_in_mbs (sequence_of q)) out.old out.new }
-{
-    let bw = q.block_row_bytes(k);
-    let bh = q.mb_height(k);
-    let vb = q.visible_row_bytes(k);
-    let vh = q.visible_rows(k);
-    let h = least(bh, vh - my * bh);
-    taking::write_zeros(out, my * bh * vb, h * vb);
-}
-
-// Takes the visible samples of such a row.
-fn take_dark(
-    s: &[u8],
-    o: usize,
-    e: usize,
-    r: usize,
-    q: Session,
-    my: usize,
-    y: &mut [u8],
-    cb: &mut [u8],
-    cr: &mut [u8],
-)
-    requires dark_row { DarkRow s.now e (payload_at s.now o e) (mb_bytes (sequence_of q).form) (head_place (sequence_of q) (my * pic_width_in_mbs (sequence_of q))) (pic_width_in_mbs (sequence_of q)) r }
-    requires fine { (Fine (sequence_of q)) × (my < frame_height_in_mbs (sequence_of q)) }
-    requires rooms { Rooms (sequence_of q) y.old cb.old cr.old }
-    ensures { MbsTook s.now o e (sequence_of q) (my * pic_width_in_mbs (sequence_of q)) (my * pic_width_in_mbs (sequence_of q) + pic_width_in_mbs (sequence_of q)) y.old y.new cb.old cb.new cr.old cr.new r }
-{
-    zero_band(s, o, e, r, q, 0, my, y);
-    if q.is_monochrome() {
-        return;
-    }
-    zero_band(s, o, e, r, q, 1, my, cb);
-    zero_band(s, o, e, r, q, 2, my, cr);
-}
-
-// Takes the visible samples of row my of macroblocks; what stands before the first begins at the payload's byte n, at the place p.
-fn take_line(
-    s: &[u8],
+// A unit that holds a picture of the size and kind q, with a payload of the exact length: its header byte stands at the place o, it ends at e, and no inserted
+// byte stands in it from the place c on.
+#[derive(Clone, Copy)]
+struct Coded<'a> {
+    s: &'a [u8],
     o: usize,
     e: usize,
     c: usize,
-    p: usize,
-    n: usize,
     q: Session,
-    my: usize,
-    y: &mut [u8],
-    cb: &mut [u8],
-    cr: &mut [u8],
-) -> usize
-    requires stands { Stands s.now e (payload_at s.now o e) n p }
-    requires fine { (Fine (sequence_of q)) × (length (payload_at s.now o e) ≡ picture_length (sequence_of q)) }
-    requires my_bound { (my < frame_height_in_mbs (sequence_of q)) × (n ≡ head_place (sequence_of q) (my * pic_width_in_mbs (sequence_of q))) }
-    requires rooms { Rooms (sequence_of q) y.old cb.old cr.old }
-    requires e_value { ins_count s.now c e ≡ 0 }
-    ensures { MbsTook s.now o e (sequence_of q) (my * pic_width_in_mbs (sequence_of q)) (my * pic_width_in_mbs (sequence_of q) + pic_width_in_mbs (sequence_of q)) y.old y.new cb.old cb.new cr.old cr.new result }
-{
-    if c <= p {
-        return take_calm(s, o, e, p, n, q, my, y, cb, cr);
-    }
-    let r = dark(s, o, e, c, p, n, q, my);
-    if r > 0 {
-        take_dark(s, o, e, r, q, my, y, cb, cr);
-        return r;
-    }
-    let row = q.mbs_width() * (2 + q.mb_bytes());
-    if taking::calm(s, p, row) {
-        return take_calm(s, o, e, p, n, q, my, y, cb, cr);
-    }
-    take_mbs(s, o, e, p, n, q, my, y, cb, cr)
+    ghost fine: { Fine (sequence_of q) } by { Prim.hlevel fine_props },
+    ghost exact: { length (payload_at s.now o e) ≡ picture_length (sequence_of q) },
+    ghost calm: { ins_count s.now c e ≡ 0 },
 }
 
-// Takes all visible samples of a picture, whose payload has the exact length, into the planes of its kind, stored tight.
+impl Coded<'_> {
+    // Takes h rows of bw bytes, which stand in the payload from its byte n on, at the place p of the unit: of each the first w bytes, into the output from the
+    // place `at` on, `step` bytes from row to row. Answers the place behind them.
+    fn take_rows(
+        self,
+        p: usize,
+        w: usize,
+        bw: usize,
+        step: usize,
+        h: usize,
+        out: &mut [u8],
+        at: usize,
+    ) -> usize
+        ghost n: { ℕ }
+        requires stands { Stands self.s.now self.e (payload_at self.s.now self.o self.e) n p }
+        requires w_le_bw { (w ≤ bw) × (n + h * bw ≤ length (payload_at self.s.now self.o self.e)) }
+        requires w_in_bounds { (at + h * step + w ≤ length out.old + step) × (h * step ≤ length out.old) }
+        ensures { RowsTook self.entry.s.now self.entry.o self.entry.e n out.old at w bw step h out.new result }
+    {
+        let mut p = p;
+        let mut a = at;
+        for _y in 0..h {
+            p = taking::take_row(self.s, p, self.e, w, out, a);
+            p = taking::skip(self.s, p, self.e, bw - w);
+            a += step;
+        }
+        p
+    }
+
+    // Takes what is visible of plane k's block in macroblock row my and column mx, which stands at the place p. Answers the place behind it.
+    fn take_block(self, p: usize, k: u32, my: usize, mx: usize, out: &mut [u8]) -> usize
+        requires stands { Stands self.s.now self.e (payload_at self.s.now self.o self.e) (block_place (sequence_of self.q) (my * pic_width_in_mbs (sequence_of self.q) + mx) k) p }
+        requires k_bound { (k < 3) × (k < planes (sequence_of self.q).form) }
+        requires my_bound { (my < frame_height_in_mbs (sequence_of self.q)) × (mx < pic_width_in_mbs (sequence_of self.q)) }
+        requires k_in_bounds { tight_length (sequence_of self.q) k ≤ length out.old }
+        ensures { BlockTook self.entry.s.now self.entry.o self.entry.e (block_place (sequence_of self.entry.q) (my * pic_width_in_mbs (sequence_of self.entry.q) + mx) k) (sequence_of self.entry.q) k my mx out.old out.new result }
+    {
+        let bw = self.q.block_row_bytes(k);
+        let bh = self.q.mb_height(k);
+        let vb = self.q.visible_row_bytes(k);
+        let vh = self.q.visible_rows(k);
+        let w = bw.min(vb - mx * bw);
+        let h = bh.min(vh - my * bh);
+        let r = self.take_rows(p, w, bw, vb, h, out, my * bh * vb + mx * bw);
+        taking::skip(self.s, r, self.e, (bh - h) * bw)
+    }
+
+    // Takes the visible samples of the macroblock in row my and column mx into the planes of its kind; what stands before its samples begins at the place p.
+    // Answers the place behind it.
+    fn take_macroblock(
+        self,
+        p: usize,
+        my: usize,
+        mx: usize,
+        y: &mut [u8],
+        cb: &mut [u8],
+        cr: &mut [u8],
+    ) -> usize
+        requires stands { Stands self.s.now self.e (payload_at self.s.now self.o self.e) (head_place (sequence_of self.q) (my * pic_width_in_mbs (sequence_of self.q) + mx)) p }
+        requires my_bound { (my < frame_height_in_mbs (sequence_of self.q)) × (mx < pic_width_in_mbs (sequence_of self.q)) }
+        requires rooms { Rooms (sequence_of self.q) y.old cb.old cr.old }
+        ensures { MbsTook self.entry.s.now self.entry.o self.entry.e (sequence_of self.entry.q) (my * pic_width_in_mbs (sequence_of self.entry.q) + mx) (my * pic_width_in_mbs (sequence_of self.entry.q) + mx + 1) y.old y.new cb.old cb.new cr.old cr.new result }
+    {
+        let a = taking::skip(self.s, p, self.e, 2);
+        let b = self.take_block(a, 0, my, mx, y);
+        if self.q.is_monochrome() {
+            return b;
+        }
+        let c = self.take_block(b, 1, my, mx, cb);
+        self.take_block(c, 2, my, mx, cr)
+    }
+}
+
+// A line of a plane as it stands in a row of macroblocks: `full` pieces of bw bytes, each `unit` behind the last, and the first `rest` bytes of one more.
+#[derive(Clone, Copy)]
+struct Pieces<'a> {
+    s: &'a [u8],
+    unit: usize,
+    bw: usize,
+    full: usize,
+    rest: usize,
+}
+
+impl Pieces<'_> {
+    // Lays the line the first piece of which begins at the place p. Answers the place behind it.
+    fn line(self, p: usize, out: &mut [u8], at: usize) -> usize
+        requires pieced { Pieced (length self.s.now) self.unit p self.bw self.full self.rest }
+        requires rest_in_bounds { at + (self.full * self.bw + self.rest) ≤ length out.old }
+        ensures { Laid out.old at (pieces self.entry.s.now self.entry.unit p self.entry.bw self.entry.full self.entry.rest) out.new result }
+    {
+        let a = macroblock::lay_rows(self.s, p, self.unit, self.bw, self.full, out, at);
+        if self.rest == 0 {
+            return a;
+        }
+        rows::copy(self.s, p + self.full * self.unit, self.rest, out, a);
+        a + self.rest
+    }
+
+    // Lays h lines, each bw bytes behind the one before it.
+    fn band(self, p: usize, h: usize, out: &mut [u8], at: usize) -> usize
+        requires banded { Banded (length self.s.now) self.unit p self.bw self.full self.rest h }
+        requires rest_in_bounds { at + h * (self.full * self.bw + self.rest) ≤ length out.old }
+        ensures { Laid out.old at (cat (lines_of self.entry.s.now self.entry.unit p self.entry.bw self.entry.full self.entry.rest) 0 h) out.new result }
+    {
+        let mut a = at;
+        for y in 0..h {
+            a = self.line(p + y * self.bw, out, a);
+        }
+        a
+    }
+}
+
+// Row my of macroblocks of a picture; what stands before the first one's samples begins at the place p of the unit.
+#[derive(Clone, Copy)]
+struct Row<'a> {
+    coded: Coded<'a>,
+    my: usize,
+    p: usize,
+    ghost my_bound: { my < frame_height_in_mbs (sequence_of coded.q) },
+    ghost stands: { Stands coded.s.now coded.e (payload_at coded.s.now coded.o coded.e) (head_place (sequence_of coded.q) (my * pic_width_in_mbs (sequence_of coded.q))) p },
+}
+
+impl Row<'_> {
+    // The bytes of the row in the payload.
+    fn len(self) -> usize
+        ensures { result ≡ pic_width_in_mbs (sequence_of self.entry.coded.q) * (2 + mb_bytes (sequence_of self.entry.coded.q).form) }
+    {
+        self.coded.q.mbs_width() * (2 + self.coded.q.mb_bytes())
+    }
+
+    // Takes the visible samples of the row. Answers the place behind it.
+    fn take(self, y: &mut [u8], cb: &mut [u8], cr: &mut [u8]) -> usize
+        requires rooms { Rooms (sequence_of self.coded.q) y.old cb.old cr.old }
+        ensures { MbsTook self.entry.coded.s.now self.entry.coded.o self.entry.coded.e (sequence_of self.entry.coded.q) (self.entry.my * pic_width_in_mbs (sequence_of self.entry.coded.q)) (self.entry.my * pic_width_in_mbs (sequence_of self.entry.coded.q) + pic_width_in_mbs (sequence_of self.entry.coded.q)) y.old y.new cb.old cb.new cr.old cr.new result }
+    {
+        if self.coded.c <= self.p {
+            return self.take_calm(y, cb, cr);
+        }
+        if let Some(r) = self.dark() {
+            self.take_dark(y, cb, cr);
+            return r;
+        }
+        if taking::calm(self.coded.s, self.p, self.len()) {
+            return self.take_calm(y, cb, cr);
+        }
+        self.take_mbs(y, cb, cr)
+    }
+
+    // The same, macroblock by macroblock.
+    fn take_mbs(self, y: &mut [u8], cb: &mut [u8], cr: &mut [u8]) -> usize
+        requires rooms { Rooms (sequence_of self.coded.q) y.old cb.old cr.old }
+        ensures { MbsTook self.entry.coded.s.now self.entry.coded.o self.entry.coded.e (sequence_of self.entry.coded.q) (self.entry.my * pic_width_in_mbs (sequence_of self.entry.coded.q)) (self.entry.my * pic_width_in_mbs (sequence_of self.entry.coded.q) + pic_width_in_mbs (sequence_of self.entry.coded.q)) y.old y.new cb.old cb.new cr.old cr.new result }
+    {
+        let mut p = self.p;
+        for mx in 0..self.coded.q.mbs_width() {
+            p = self.coded.take_macroblock(p, self.my, mx, y, cb, cr);
+        }
+        p
+    }
+
+    // The same where none of the row's bytes is an inserted one, line by line.
+    fn take_calm(self, y: &mut [u8], cb: &mut [u8], cr: &mut [u8]) -> usize
+        requires rooms { Rooms (sequence_of self.coded.q) y.old cb.old cr.old }
+        requires q_value { eqb (ins_count self.coded.s.now self.p (self.p + pic_width_in_mbs (sequence_of self.coded.q) * (2 + mb_bytes (sequence_of self.coded.q).form))) 0 ≡ true }
+        ensures { MbsTook self.entry.coded.s.now self.entry.coded.o self.entry.coded.e (sequence_of self.entry.coded.q) (self.entry.my * pic_width_in_mbs (sequence_of self.entry.coded.q)) (self.entry.my * pic_width_in_mbs (sequence_of self.entry.coded.q) + pic_width_in_mbs (sequence_of self.entry.coded.q)) y.old y.new cb.old cb.new cr.old cr.new result }
+    {
+        let q = self.coded.q;
+        let luma = q.mb_height(0) * q.block_row_bytes(0);
+        let chroma = q.mb_height(1) * q.block_row_bytes(1);
+        self.take_band(0, 0, y);
+        if !q.is_monochrome() {
+            self.take_band(1, luma, cb);
+            self.take_band(2, luma + chroma, cr);
+        }
+        self.p + self.len()
+    }
+
+    // Takes what is visible of plane k in the row, which stands in the unit as it does in the payload; `off` bytes of a macroblock stand before the plane's block.
+    fn take_band(self, k: u32, off: usize, out: &mut [u8])
+        requires row_stands { RowStands self.coded.s.now (payload_at self.coded.s.now self.coded.o self.coded.e) (sequence_of self.coded.q) (self.my * pic_width_in_mbs (sequence_of self.coded.q)) self.p }
+        requires k_bound { (k < 3) × (k < planes (sequence_of self.coded.q).form) }
+        requires off_value { off ≡ off_in (sequence_of self.coded.q).form k }
+        requires k_in_bounds { tight_length (sequence_of self.coded.q) k ≤ length out.old }
+        ensures { Steps (sequence_of self.entry.coded.q) k (payload_at self.entry.coded.s.now self.entry.coded.o self.entry.coded.e) (self.entry.my * pic_width_in_mbs (sequence_of self.entry.coded.q)) (self.entry.my * pic_width_in_mbs (sequence_of self.entry.coded.q) + pic_width_in_mbs (sequence_of self.entry.coded.q)) out.old out.new }
+    {
+        let q = self.coded.q;
+        let size = q.mb_bytes();
+        let bw = q.block_row_bytes(k);
+        let bh = q.mb_height(k);
+        let vb = q.visible_row_bytes(k);
+        let vh = q.visible_rows(k);
+        let h = bh.min(vh - self.my * bh);
+        let pieces = Pieces {
+            s: self.coded.s,
+            unit: 2 + size,
+            bw,
+            full: vb / bw,
+            rest: vb % bw,
+        };
+        pieces.band(self.p + 2 + off, h, out, self.my * bh * vb);
+    }
+
+    // The place behind the row where all its samples are found to be zero, None where they are not.
+    fn dark(self) -> Option<usize>
+        ensures { IfSome result (λ r. DarkRow self.entry.coded.s.now self.entry.coded.e (payload_at self.entry.coded.s.now self.entry.coded.o self.entry.coded.e) (mb_bytes (sequence_of self.entry.coded.q).form) (head_place (sequence_of self.entry.coded.q) (self.entry.my * pic_width_in_mbs (sequence_of self.entry.coded.q))) (pic_width_in_mbs (sequence_of self.entry.coded.q)) r) }
+    {
+        let Coded { s, e, c, q, .. } = self.coded;
+        let size = q.mb_bytes();
+        let mut p = self.p;
+        for _mx in 0..q.mbs_width() {
+            let b = taking::pass(s, p, e, c, 2);
+            p = taking::zeros(s, b, e, size)?;
+        }
+        Some(p)
+    }
+
+    // Takes the visible samples of such a row.
+    fn take_dark(self, y: &mut [u8], cb: &mut [u8], cr: &mut [u8])
+        requires dark { IsDark (payload_at self.coded.s.now self.coded.o self.coded.e) (sequence_of self.coded.q) (self.my * pic_width_in_mbs (sequence_of self.coded.q)) }
+        requires rooms { Rooms (sequence_of self.coded.q) y.old cb.old cr.old }
+        ensures in_y { Steps (sequence_of self.entry.coded.q) 0 (payload_at self.entry.coded.s.now self.entry.coded.o self.entry.coded.e) (self.entry.my * pic_width_in_mbs (sequence_of self.entry.coded.q)) (self.entry.my * pic_width_in_mbs (sequence_of self.entry.coded.q) + pic_width_in_mbs (sequence_of self.entry.coded.q)) y.old y.new }
+        ensures in_cb { Steps (sequence_of self.entry.coded.q) 1 (payload_at self.entry.coded.s.now self.entry.coded.o self.entry.coded.e) (self.entry.my * pic_width_in_mbs (sequence_of self.entry.coded.q)) (self.entry.my * pic_width_in_mbs (sequence_of self.entry.coded.q) + pic_width_in_mbs (sequence_of self.entry.coded.q)) cb.old cb.new }
+        ensures in_cr { Steps (sequence_of self.entry.coded.q) 2 (payload_at self.entry.coded.s.now self.entry.coded.o self.entry.coded.e) (self.entry.my * pic_width_in_mbs (sequence_of self.entry.coded.q)) (self.entry.my * pic_width_in_mbs (sequence_of self.entry.coded.q) + pic_width_in_mbs (sequence_of self.entry.coded.q)) cr.old cr.new }
+    {
+        self.zero_band(0, y);
+        if self.coded.q.is_monochrome() {
+            return;
+        }
+        self.zero_band(1, cb);
+        self.zero_band(2, cr);
+    }
+
+    // Writes what is visible of plane k in such a row.
+    fn zero_band(self, k: u32, out: &mut [u8])
+        requires dark { IsDark (payload_at self.coded.s.now self.coded.o self.coded.e) (sequence_of self.coded.q) (self.my * pic_width_in_mbs (sequence_of self.coded.q)) }
+        requires k_bound { (k < 3) × (k < planes (sequence_of self.coded.q).form) }
+        requires k_in_bounds { tight_length (sequence_of self.coded.q) k ≤ length out.old }
+        ensures { Steps (sequence_of self.entry.coded.q) k (payload_at self.entry.coded.s.now self.entry.coded.o self.entry.coded.e) (self.entry.my * pic_width_in_mbs (sequence_of self.entry.coded.q)) (self.entry.my * pic_width_in_mbs (sequence_of self.entry.coded.q) + pic_width_in_mbs (sequence_of self.entry.coded.q)) out.old out.new }
+    {
+        let q = self.coded.q;
+        let bh = q.mb_height(k);
+        let vb = q.visible_row_bytes(k);
+        let vh = q.visible_rows(k);
+        let h = bh.min(vh - self.my * bh);
+        taking::write_zeros(out, self.my * bh * vb, h * vb);
+    }
+}
+
+// Takes all visible samples of a picture, whose payload has the exact length, into the planes of its kind, stored tight. The picture's unit begins with its
+// header byte at the place o and ends at e, and no inserted byte stands in it from the place c on.
 pub fn samples(
     s: &[u8],
     o: usize,
@@ -392,14 +297,9 @@ pub fn samples(
     requires e_value { ins_count s.now c e ≡ 0 }
     ensures { PlanesTook (sequence_of q) (payload_at s.now o e) y.old y.new cb.old cb.new cr.old cr.new }
 {
-    let mh = q.mbs_height();
-    let row = q.mbs_width() * (2 + q.mb_bytes());
-    let mut a = taking::skip(s, o + 1, e, 2);
-    let mut n = 2;
-    let mut my = 0;
-    while my < mh {
-        a = take_line(s, o, e, c, a, n, q, my, y, cb, cr);
-        n += row;
-        my += 1;
+    let coded = Coded { s, o, e, c, q };
+    let mut p = taking::skip(s, o + 1, e, 2);
+    for my in 0..q.mbs_height() {
+        p = Row { coded, my, p }.take(y, cb, cr);
     }
 }
