@@ -166,9 +166,7 @@ fn is_short(q: Session, y: &[u8], cb: &[u8], cr: &[u8]) -> bool
     requires { accepted (sequence_of q) ≡ true }
     ensures { result ≡ short (rooms y.now cb.now cr.now) (sequence_of q) }
 {
-    y.len() < q.tight_len(0)
-        || cb.len() < q.tight_len(1)
-        || cr.len() < q.tight_len(2)
+    y.len() < q.tight_len(0) || cb.len() < q.tight_len(1) || cr.len() < q.tight_len(2)
 }
 
 // The unit whose bytes begin at `begin`, behind its start code, in a call at `place`: 11 and 12 first, then by its header, 13 where it is none of the three.

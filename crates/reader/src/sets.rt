@@ -4,17 +4,16 @@ ghost use Rattle.lists.specs.Test.{same};
 ghost use Rattle.parameter_sets.specs.Sps.{base_level};
 ghost use Rattle.parameter_sets.specs.Pps.{pps_payload};
 ghost use Rattle.parameter_sets.specs.Read.{read_sps};
+ghost use Rattle.parameter_sets.specs.Answers.{sps_read};
 ghost use Rattle.reader.specs.Heads.{UnitAt, payload_at};
-ghost use Rattle.reader.specs.Read.{sps_of};
 
 use nal_unit::taking;
-use parameter_sets::SpsRead;
 use ycbcr_image::Session;
 
 // The size and kind that the unit's payload says as a sequence parameter set.
 pub fn sps_at(s: &[u8], o: usize, e: usize) -> Option<Session>
     requires { UnitAt s.now o e }
-    ensures { sps_of result ≡ read_sps base_level (payload_at s.now o e) }
+    ensures { sps_read result ≡ read_sps base_level (payload_at s.now o e) }
 {
     let n = taking::payload_len(s, o, e);
     if 32 < n {
@@ -22,10 +21,7 @@ pub fn sps_at(s: &[u8], o: usize, e: usize) -> Option<Session>
     }
     let mut payload = [0u8; 32];
     taking::take_slow(s, o + 1, e, n, &mut payload[..], 0);
-    match parameter_sets::read_sps(&payload[..n], 10) {
-        SpsRead::Sps(q) => Some(q),
-        SpsRead::NotForm => None,
-    }
+    parameter_sets::read_sps(&payload[..n], 10)
 }
 
 // Whether the unit's payload is that of the picture parameter set.

@@ -53,8 +53,8 @@ returns-in-37 c =
     (header_picture room (held_of a.sets) X c.in-37.is ∙ unit_good room (held_of a.sets) g c.if-found-begin.false c.requires.1 c.in-Some.is)
     c.picture.ensures)
 
-pub returns-in_default-2 : goal.returns-in_default-2
-returns-in_default-2 c =
+pub returns-in_default-take : goal.returns-in_default-take
+returns-in_default-take c =
     let a = c.args in
     let g = c.unit_scan-found.ensures in
     let X = payload_at a.take.now a.begin c.unit_scan-found.result.stop in
@@ -63,4 +63,4 @@ returns-in_default-2 c =
     shown-moved g.end
     (shown-refused a.y.now a.cb.now a.cr.now
     (header-other room (held_of a.sets) X (omega arith) (omega arith) (omega arith) ∙ unit_good room (held_of a.sets) g c.if-found-begin.false c.requires.1 c.in-Some.is)
-    c.refused-in_default-2.ensures)
+    c.refused-in_default-take.ensures)

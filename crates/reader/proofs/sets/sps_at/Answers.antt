@@ -21,12 +21,7 @@ slice_bounds-read_sps-end c =
     let n = small-length c.args.s.now c.args.o c.args.e c.payload_len-n.ensures in
     n ∙ sym (ap length (small-took c.requires n (omega (arith, c.if-n-gt32.false)) c.take_slow.ensures))
 
-pub returns-in-Sps : goal.returns-in-Sps
-returns-in-Sps c =
+pub returns : goal.returns
+returns c =
     let n = small-length c.args.s.now c.args.o c.args.e c.payload_len-n.ensures in
-    c.in-Sps.ensures ∙ ap (λ (p : List ℕ). read_sps base_level p) (small-took c.requires n (omega (arith, c.if-n-gt32.false)) c.take_slow.ensures)
-
-pub returns-in-NotForm : goal.returns-in-NotForm
-returns-in-NotForm c =
-    let n = small-length c.args.s.now c.args.o c.args.e c.payload_len-n.ensures in
-    c.in-NotForm.ensures ∙ ap (λ (p : List ℕ). read_sps base_level p) (small-took c.requires n (omega (arith, c.if-n-gt32.false)) c.take_slow.ensures)
+    c.read_sps.ensures ∙ ap (λ (p : List ℕ). read_sps base_level p) (small-took c.requires n (omega (arith, c.if-n-gt32.false)) c.take_slow.ensures)

@@ -1,8 +1,8 @@
 -- `reader::samples::Row::dark` meets its contract. The loop's invariant: the macroblocks that were found dark, and the place behind them. Assumes nothing.
-use Rattle.std.proofs.Common.{◌≡◌, ◌+◌, ◌*◌, ◌≤◌, refl, arith, length}
+use Rattle.std.proofs.Common.{◌≡◌, ◌+◌, ◌*◌, ◌≤◌, refl, sym, ◌∙◌, arith, length, Some}
 use Rattle.ycbcr_image.specs.Sizes.{sequence_of, pic_width_in_mbs}
-use Rattle.nal_unit.specs.Taking.{stands-pass}
-use Rattle.nal_unit.specs.TakingCode.{zeros-are}
+use Rattle.nal_unit.specs.Taking.{stands-pass, behind_zeros}
+use Rattle.nal_unit.specs.TakingCode.{zeros-behind, zeros-are}
 use Rattle.reader.specs.Heads.{payload_at}
 use Rattle.reader.specs.Samples.{head_place, row-long, dark_start, dark_head, dark_samples, dark_turn, dark_row}
 use Rattle.reader.proofs.samples.Row.dark.Goals as goal
@@ -18,12 +18,13 @@ long c =
 pub pass-b-requires-clause-n_in_bounds : goal.pass-b-requires-clause-n_in_bounds
 pass-b-requires-clause-n_in_bounds c = dark_head c.loop-mx.invariant c.loop-mx-test.true (long (goal.at.pass-b-requires-clause-n_in_bounds c).In-loop-mx)
 
-pub zeros-r-requires-clause-n_in_bounds : goal.zeros-r-requires-clause-n_in_bounds
-zeros-r-requires-clause-n_in_bounds c =
-    dark_samples c.loop-mx.invariant c.loop-mx-test.true (long (goal.at.zeros-r-requires-clause-n_in_bounds c).In-loop-mx) c.pass-b.ensures
+pub zeros-requires-clause-n_in_bounds : goal.zeros-requires-clause-n_in_bounds
+zeros-requires-clause-n_in_bounds c =
+    dark_samples c.loop-mx.invariant c.loop-mx-test.true (long (goal.at.zeros-requires-clause-n_in_bounds c).In-loop-mx) c.pass-b.ensures
 
 pub loop-mx-preserved : goal.loop-mx-preserved
 loop-mx-preserved c =
     let a = c.args.self.coded in
     let t = stands-pass c.loop-mx.invariant.at c.pass-b.ensures in
-    dark_turn c.loop-mx.invariant c.pass-b.ensures c.if-r-b.false (zeros-are a.s.now c.pass-b.result a.e c.mb_bytes-size.result c.zeros-r.result t.low t.high t.inside c.zeros-r.ensures c.if-r-b.false)
+    let f : Some c.in_ok-p.p ≡ behind_zeros a.s.now c.pass-b.result a.e c.mb_bytes-size.result = sym c.in_ok-p.was ∙ c.zeros.ensures in
+    dark_turn c.loop-mx.invariant c.pass-b.ensures (zeros-behind a.s.now c.pass-b.result a.e c.mb_bytes-size.result c.in_ok-p.p f) (zeros-are a.s.now c.pass-b.result a.e c.mb_bytes-size.result c.in_ok-p.p t.low t.high t.inside f)
