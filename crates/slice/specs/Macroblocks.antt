@@ -1,6 +1,6 @@
 -- The macroblocks of a picture as its writer goes over them: laws that the code cites.
 --     lend, lends, lends_in  a lent plane; the three of a call; those of a value of Planes
---     Ready q L              an accepted size, and planes that are lent whole
+--     Ready q L              an accepted size, and planes that are lent whole; Ready-prop: it has one proof at most
 --     macroblock_in q L i    macroblock i with what stands before its samples
 --     picture_is             a picture's payload is its macroblocks, and 80
 --     samples_are            a macroblock's samples are a block of each plane, in every kind: a plane that monochrome has not is empty
@@ -9,6 +9,9 @@
 use Rattle.std.specs.Prelude.{◌≡◌, refl, List, [], ◌∷◌, ◌++◌, Bool, true, false, cond, ℕ, zero, suc, ◌+◌, ◌*◌, ◌/◌, ◌≤◌, ◌<◌, length}
 use Rattle.std.proofs.Common.{sym, ap, ◌∙◌, append-nil, zero-add, add_assoc, mul_assoc, div-mul-le_self, mul-le-mul_right, suc-mul, zero-mul, arith, length-append}
 use Rattle.std.proofs.Math.Arith.{digits_lt}
+use Rattle.std.proofs.Props.{props}
+use native.Mathlib.Nat.{ℕ_set}
+use mathlib.Core.Logic.{◌⊎◌, inl, inr}
 use Rattle.nal_unit.specs.Escape.{esc, esc_from, zeros_end, esc-append}
 use Rattle.nal_unit.specs.EscapeCode.{counted, esc-stop}
 use Rattle.nal_unit.specs.PutCode.{Put, pieces_first, pieces_room, pieces}
@@ -43,6 +46,16 @@ lends_in p = lends p.y.now p.cb.now p.cr.now p.strides
 pub record Ready (q : Sequence) (L : Lends) : Type 0 where
   pub fine : Fine q
   pub whole : Whole q L
+
+-- which has one proof at most, so that a struct may hold it
+depth-prop : (n : ℕ) → IsProp ((n ≡ 8) ⊎ (n ≡ 12))
+depth-prop n (inl a) (inl b) = ap inl (ℕ_set n 8 a b)
+depth-prop n (inl a) (inr b) = absurd (omega arith)
+depth-prop n (inr a) (inl b) = absurd (omega arith)
+depth-prop n (inr a) (inr b) = ap inr (ℕ_set n 12 a b)
+
+pub Ready-prop : (q : Sequence) (L : Lends) → IsProp (Ready q L)
+Ready-prop q L = hlevel (depth-prop, props)
 
 unfoldable pub macroblock_in : Sequence → Lends → ℕ → List ℕ
 macroblock_in q L i = macroblock (header_of 0 0) (mb_at (pic_width_in_mbs q) (planes_in q.form L)) i

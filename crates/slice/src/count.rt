@@ -7,55 +7,55 @@ ghost use Rattle.slice.specs.Cat.{cat};
 ghost use Rattle.slice.specs.Picture.{picture_of};
 ghost use Rattle.slice.specs.Macroblocks.{lends_in, Ready, macroblock_in, row_in};
 
+use crate::picture::Picture;
 use crate::{Planes, macroblock};
 use nal_unit::count;
 use nal_unit::count::Count;
 use ycbcr_image::Session;
 
-// The macroblock in row my and column mx, after z counted zeros.
-fn count_macroblock(planes: Planes, s: Session, my: usize, mx: usize, z: usize) -> Count
-    requires ready { Ready (sequence_of s) (lends_in planes) }
-    requires my_bound { (my < frame_height_in_mbs (sequence_of s)) × (mx < pic_width_in_mbs (sequence_of s)) }
-    requires z_bound { z ≤ 2 }
-    ensures { Counts z (macroblock_in (sequence_of s) (lends_in planes.entry) (my * pic_width_in_mbs (sequence_of s) + mx)) result.n result.z }
-{
-    let mut plain = [0u8; 580];
-    let n = macroblock::macroblock(planes, s, my, mx, &mut plain[..], 0);
-    count::count_slice(&plain[..], 0, n, z)
-}
-
-// The macroblocks of row my, after z counted zeros.
-fn count_row(planes: Planes, s: Session, my: usize, z: usize) -> Count
-    requires ready { Ready (sequence_of s) (lends_in planes) }
-    requires my_bound { my < frame_height_in_mbs (sequence_of s) }
-    requires z_bound { z ≤ 2 }
-    ensures { Counts z (row_in (sequence_of s) (lends_in planes.entry) my) result.n result.z }
-{
-    let mw = s.mbs_width();
-    let mut n: usize = 0;
-    let mut zeros = z;
-    for mx in 0..mw {
-        let r = count_macroblock(planes, s, my, mx, zeros);
-        n += r.n;
-        zeros = r.z;
+impl Picture<'_> {
+    // The macroblock in row my and column mx, after z counted zeros.
+    fn count_macroblock(&self, my: usize, mx: usize, z: usize) -> Count
+        requires my_bound { (my < frame_height_in_mbs (sequence_of self.now.s)) × (mx < pic_width_in_mbs (sequence_of self.now.s)) }
+        requires z_bound { z ≤ 2 }
+        ensures { Counts z (macroblock_in (sequence_of self.now.s) (lends_in self.now.planes) (my * pic_width_in_mbs (sequence_of self.now.s) + mx)) result.n result.z }
+    {
+        let mut plain = [0u8; 580];
+        let n = macroblock::macroblock(self.planes, self.s, my, mx, &mut plain[..], 0);
+        count::count_slice(&plain[..], 0, n, z)
     }
-    Count { n, z: zeros }
-}
 
-// All macroblocks of a picture, from its first byte on.
-fn count_rows(planes: Planes, s: Session) -> Count
-    requires { Ready (sequence_of s) (lends_in planes) }
-    ensures { Counts 0 (cat (row_in (sequence_of s) (lends_in planes.entry)) 0 (frame_height_in_mbs (sequence_of s))) result.n result.z }
-{
-    let mh = s.mbs_height();
-    let mut n: usize = 0;
-    let mut zeros: usize = 0;
-    for my in 0..mh {
-        let r = count_row(planes, s, my, zeros);
-        n += r.n;
-        zeros = r.z;
+    // The macroblocks of row my, after z counted zeros.
+    fn count_row(&self, my: usize, z: usize) -> Count
+        requires my_bound { my < frame_height_in_mbs (sequence_of self.now.s) }
+        requires z_bound { z ≤ 2 }
+        ensures { Counts z (row_in (sequence_of self.now.s) (lends_in self.now.planes) my) result.n result.z }
+    {
+        let mw = self.s.mbs_width();
+        let mut n: usize = 0;
+        let mut zeros = z;
+        for mx in 0..mw {
+            let r = self.count_macroblock(my, mx, zeros);
+            n += r.n;
+            zeros = r.z;
+        }
+        Count { n, z: zeros }
     }
-    Count { n, z: zeros }
+
+    // All macroblocks of a picture, from its first byte on.
+    fn count_rows(&self) -> Count
+        ensures { Counts 0 (cat (row_in (sequence_of self.now.s) (lends_in self.now.planes)) 0 (frame_height_in_mbs (sequence_of self.now.s))) result.n result.z }
+    {
+        let mh = self.s.mbs_height();
+        let mut n: usize = 0;
+        let mut zeros: usize = 0;
+        for my in 0..mh {
+            let r = self.count_row(my, zeros);
+            n += r.n;
+            zeros = r.z;
+        }
+        Count { n, z: zeros }
+    }
 }
 
 // The length of a picture's escaped payload.
@@ -63,6 +63,6 @@ pub fn escaped_len(planes: Planes, s: Session) -> usize
     requires { Ready (sequence_of s) (lends_in planes) }
     ensures { result ≡ length (esc (picture_of (sequence_of s) (lends_in planes.entry))) }
 {
-    let r = count_rows(planes, s);
+    let r = Picture { planes, s }.count_rows();
     r.n + 1
 }

@@ -4,6 +4,7 @@
 
 pub mod count;
 pub mod macroblock;
+mod picture;
 pub mod write;
 
 ghost use Rattle.std.specs.Prelude.{◌≡◌};

@@ -12,6 +12,7 @@ ghost use Rattle.slice.specs.Laid.{Laid};
 ghost use Rattle.slice.specs.Macroblocks.{lend, lends_in, Ready, Inside, block_in, samples_at, macroblock_in};
 
 use crate::Planes;
+use crate::picture::Picture;
 use nal_unit::rows;
 use ycbcr_image::Session;
 
@@ -97,16 +98,18 @@ fn block(
     lay_rows(a, my * (h * stride) + mx * w, stride, w, h, out, at)
 }
 
-// Lays the samples of the macroblock in row my and column mx. In monochrome the blocks of Cb and Cr are empty.
-fn samples(planes: Planes, s: Session, my: usize, mx: usize, out: &mut [u8], at: usize) -> usize
-    requires ready { Ready (sequence_of s) (lends_in planes) }
-    requires my_bound { (my < frame_height_in_mbs (sequence_of s)) × (mx < pic_width_in_mbs (sequence_of s)) }
-    requires s_in_bounds { at + mb_bytes (sequence_of s).form ≤ length out.old }
-    ensures { Laid out.old at (samples_at (sequence_of s) (lends_in planes.entry) my mx) out.new result }
-{
-    let a = block(planes.y, planes.strides.y, s, 0, my, mx, out, at);
-    let b = block(planes.cb, planes.strides.cb, s, 1, my, mx, out, a);
-    block(planes.cr, planes.strides.cr, s, 2, my, mx, out, b)
+impl Picture<'_> {
+    // Lays the samples of the macroblock in row my and column mx. In monochrome the blocks of Cb and Cr are empty.
+    fn samples(&self, my: usize, mx: usize, out: &mut [u8], at: usize) -> usize
+        requires my_bound { (my < frame_height_in_mbs (sequence_of self.now.s)) × (mx < pic_width_in_mbs (sequence_of self.now.s)) }
+        requires s_in_bounds { at + mb_bytes (sequence_of self.now.s).form ≤ length out.old }
+        ensures { Laid out.old at (samples_at (sequence_of self.now.s) (lends_in self.now.planes) my mx) out.new result }
+    {
+        let Planes { y, cb, cr, strides } = self.planes;
+        let a = block(y, strides.y, self.s, 0, my, mx, out, at);
+        let b = block(cb, strides.cb, self.s, 1, my, mx, out, a);
+        block(cr, strides.cr, self.s, 2, my, mx, out, b)
+    }
 }
 
 // Lays what stands before the samples of macroblock i: before those of the first the slice header and its mb_type, before the others mb_type alone.
@@ -138,7 +141,7 @@ pub fn macroblock(
 {
     let mw = s.mbs_width();
     let a = head(out, at, my * mw + mx);
-    samples(planes, s, my, mx, out, a)
+    Picture { planes, s }.samples(my, mx, out, a)
 }
 
 // Lays n macroblocks of row my, the first in column mx.

@@ -1,9 +1,9 @@
--- `slice::write::put_some` meets its contract: the macroblocks are escaped where they were laid. Assumes nothing.
+-- `slice::Picture::put_some` meets its contract: the macroblocks are escaped where they were laid. Assumes nothing.
 use Rattle.std.proofs.Common.{arith}
 use Rattle.slice.specs.Laid.{laid-length}
 use Rattle.slice.specs.Macroblocks.{some_most}
 use Rattle.slice.specs.Pieces.{laid_room, mend_room, put-laid}
-use Rattle.slice.proofs.write.put_some.Goals as goal
+use Rattle.slice.proofs.picture.Picture.put_some.Goals as goal
 
 pub macroblocks-end-requires-clause-n_in_bounds : goal.macroblocks-end-requires-clause-n_in_bounds
 macroblocks-end-requires-clause-n_in_bounds c =
@@ -11,7 +11,7 @@ macroblocks-end-requires-clause-n_in_bounds c =
 
 pub mend-requires-clause-n_bound : goal.mend-requires-clause-n_bound
 mend-requires-clause-n_bound c =
-    let m = some_most c.args.s c.requires.ready c.args.my c.args.mx c.args.n c.requires.my_bound.0 c.requires.my_bound.1 c.requires.n_bound in
+    let m = some_most c.args.self.now.s c.args.self.now.ready c.args.my c.args.mx c.args.n c.requires.my_bound.0 c.requires.my_bound.1 c.requires.n_bound in
     omega (arith, m, c.macroblocks-end.ensures.place)
 
 pub mend-requires-clause-n_in_bounds : goal.mend-requires-clause-n_in_bounds

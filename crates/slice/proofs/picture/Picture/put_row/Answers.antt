@@ -1,12 +1,12 @@
--- `slice::write::put_row` meets its contract. The loop's invariant: what is written and what is still to come. Assumes nothing.
+-- `slice::Picture::put_row` meets its contract. The loop's invariant: what is written and what is still to come. Assumes nothing.
 use Rattle.std.proofs.Common.{◌≡◌, ◌+◌, ◌≤◌, arith}
 use Rattle.ycbcr_image.specs.Sizes.{sequence_of, pic_width_in_mbs}
 use Rattle.slice.specs.Macroblocks.{once}
 use Rattle.slice.specs.Pieces.{row_is, pieces_start, pieces_end, some_room, some_turn, some_end}
-use Rattle.slice.proofs.write.put_row.Goals as goal
+use Rattle.slice.proofs.picture.Picture.put_row.Goals as goal
 
 pub nonzero_div-n : goal.nonzero_div-n
-nonzero_div-n c = omega (arith, c.at_once-n.ensures, (once c.args.s).some)
+nonzero_div-n c = omega (arith, c.at_once-n.ensures, (once c.args.self.now.s).some)
 
 pub loop-mx-init : goal.loop-mx-init
 loop-mx-init c =
@@ -15,11 +15,11 @@ loop-mx-init c =
 pub put_some-a-requires-clause-n_in_bounds : goal.put_some-a-requires-clause-n_in_bounds
 put_some-a-requires-clause-n_in_bounds c =
     let g = c.loop-mx.invariant in
-    let l : c.loop-mx.mx + c.min.result ≤ pic_width_in_mbs (sequence_of c.args.s) = omega (arith, c.mbs_width-mw.ensures, c.min.ensures, g.within) in
+    let l : c.loop-mx.mx + c.min.result ≤ pic_width_in_mbs (sequence_of c.args.self.now.s) = omega (arith, c.mbs_width-mw.ensures, c.min.ensures, g.within) in
     some_room _ g l
 
 pub loop-mx-smaller : goal.loop-mx-smaller
-loop-mx-smaller c = omega (arith, c.loop-mx-test.true, c.at_once-n.ensures, (once c.args.s).some)
+loop-mx-smaller c = omega (arith, c.loop-mx-test.true, c.at_once-n.ensures, (once c.args.self.now.s).some)
 
 pub loop-mx-preserved : goal.loop-mx-preserved
 loop-mx-preserved c =

@@ -2,10 +2,10 @@ use Rattle.std.proofs.Common.{◌-◌, ◌*◌}
 use Rattle.ycbcr_image.specs.Sizes.{sequence_of, pic_width_in_mbs}
 use Rattle.slice.specs.Macroblocks.{lends_in, macroblock_in}
 use Rattle.slice.specs.Pieces.{Pieces}
-use Rattle.slice.proofs.write.put_row.Given as goal
+use Rattle.slice.proofs.picture.Picture.put_row.Given as goal
 
 abbrev pub invariant-loop-mx : goal.invariant-loop-mx
-invariant-loop-mx l = Pieces l.initial.out l.at (macroblock_in (sequence_of l.s) (lends_in l.planes)) (l.my * pic_width_in_mbs (sequence_of l.s)) (pic_width_in_mbs (sequence_of l.s)) l.out l.a l.mx
+invariant-loop-mx l = Pieces l.initial.out l.at (macroblock_in (sequence_of l.self.s) (lends_in l.self.planes)) (l.my * pic_width_in_mbs (sequence_of l.self.s)) (pic_width_in_mbs (sequence_of l.self.s)) l.out l.a l.mx
 
 abbrev pub decreases-loop-mx : goal.decreases-loop-mx
 decreases-loop-mx l = l.mw - l.mx

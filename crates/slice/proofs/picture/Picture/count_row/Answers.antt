@@ -1,12 +1,12 @@
--- `slice::count::count_row` meets its contract. The loop's invariant: what is counted and what is still to come. Assumes nothing.
+-- `slice::Picture::count_row` meets its contract. The loop's invariant: what is counted and what is still to come. Assumes nothing.
 use Rattle.std.proofs.Common.{arith}
 use Rattle.slice.specs.Macroblocks.{row_few}
 use Rattle.slice.specs.Pieces.{row_is, tally_start, tally_turn, tally_most, tally_end}
-use Rattle.slice.proofs.count.count_row.Goals as goal
+use Rattle.slice.proofs.picture.Picture.count_row.Goals as goal
 
 pub loop-mx-init : goal.loop-mx-init
 loop-mx-init c =
-    tally_start c.args.z _ _ _ c.requires.z_bound (omega (arith, row_few c.requires.ready c.args.my c.requires.my_bound))
+    tally_start c.args.z _ _ _ c.requires.z_bound (omega (arith, row_few c.args.self.now.ready c.args.my c.requires.my_bound))
 
 pub overflow_add-n : goal.overflow_add-n
 overflow_add-n c = omega (arith, tally_most (tally_turn c.loop-mx.invariant (omega (arith, c.loop-mx-test.true, c.mbs_width-mw.ensures)) c.count_macroblock-r.ensures))

@@ -1,8 +1,0 @@
-use Rattle.std.proofs.Common.{◌*◌}
-use Rattle.ycbcr_image.specs.Sizes.{sequence_of, pic_width_in_mbs}
-use Rattle.slice.specs.Macroblocks.{lends_in, macroblock_in}
-use Rattle.slice.specs.Pieces.{Tally}
-use Rattle.slice.proofs.count.count_row.Given as goal
-
-abbrev pub invariant-loop-mx : goal.invariant-loop-mx
-invariant-loop-mx l = Tally l.z (macroblock_in (sequence_of l.s) (lends_in l.planes)) (l.my * pic_width_in_mbs (sequence_of l.s)) (pic_width_in_mbs (sequence_of l.s)) l.n l.zeros l.mx
