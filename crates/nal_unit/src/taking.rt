@@ -1,6 +1,7 @@
 // Reading a unit's payload by the places of the slice that holds the unit (7.3.1). No payload is kept and no count is carried: a byte is an inserted one
 // exactly if it is 03 and the two bytes before it are 00, and a unit's header is not 0. Each function here looks at the stretch from the place p up to e,
 // the unit's end, and none at a byte before p - 2. What is public is a leaf for proved callers.
+// s, p and e stay parameters: a type that holds 2 ≤ p ≤ e ≤ length s would ask it of callers of these public functions, where a `requires` asks less.
 ghost use Rattle.std.specs.Prelude.{◌≡◌, cond, ◌+◌, ◌-◌, ◌*◌, ◌/◌, ◌≤◌, ◌<◌, eqb, length, drop, get_or, replicate};
 ghost use Rattle.lists.specs.Fill.{splice};
 ghost use Rattle.lists.specs.Part.{part};
@@ -20,6 +21,7 @@ pub fn inserted_at(s: &[u8], p: usize) -> bool
 }
 
 // The place of the payload's next byte. Two inserted bytes never stand side by side.
+#[tactic(auto, using(crate::specs::Kept::kept_some))]
 fn next_at(s: &[u8], p: usize, e: usize) -> usize
     requires le_p { (2 ≤ p) × (e ≤ length s.now) }
     requires nonzero { 0 < length (kept s.now p e) }
@@ -71,6 +73,7 @@ pub fn take_slow(s: &[u8], p: usize, e: usize, n: usize, out: &mut [u8], at: usi
 {
     let mut q = p;
     let mut i = 0;
+    // no `for`: how many bytes of the stretch are passed is known only behind them
     while i < n {
         out[at + i] = s[q];
         i += plain_at(s, q);
@@ -143,6 +146,7 @@ pub fn skip(s: &[u8], p: usize, e: usize, n: usize) -> usize
 {
     let mut q = p;
     let mut left = n;
+    // no `for`: it counts no index, and how often it turns is known only at its end
     while left > 0 {
         let m = count_inserted(s, q, q + left);
         q += left;
@@ -175,6 +179,7 @@ pub fn pairs(s: &[u8], p: usize, n: usize) -> bool
 }
 
 // The place behind the payload's next n bytes, where these are zeros in such pairs.
+#[tactic(auto, using(crate::specs::Kept::kept_room))]
 pub fn zeros(s: &[u8], p: usize, e: usize, n: usize) -> Option<usize>
     requires le_p { (2 ≤ p) × (p ≤ e) × (e ≤ length s.now) }
     requires n_in_bounds { n ≤ length (kept s.now p e) }
@@ -200,6 +205,7 @@ fn pass_marked(s: &[u8], p: usize, e: usize, n: usize) -> usize
 }
 
 // A place behind the payload's next n bytes, where no inserted byte stands from the place c on. Calm bytes are passed as they stand.
+#[tactic(auto, using(crate::specs::Kept::kept_room))]
 pub fn pass(s: &[u8], p: usize, e: usize, c: usize, n: usize) -> usize
     requires le_p { (2 ≤ p) × (p ≤ e) × (e ≤ length s.now) }
     requires n_in_bounds { n ≤ length (kept s.now p e) }
@@ -239,6 +245,7 @@ fn take_marked(s: &[u8], p: usize, e: usize, n: usize, out: &mut [u8], at: usize
 
 // Takes a row of N bytes of the payload to the place `at` of the output, and answers a place behind them. The test looks at 16 bytes at a time, one vector: at
 // some behind a narrower row too, and at some of a wider one twice.
+#[tactic(auto, using(crate::specs::Kept::kept_room))]
 fn take_fixed<const N: usize>(s: &[u8], p: usize, e: usize, out: &mut [u8], at: usize) -> usize
     requires le_p { (2 ≤ p) × (p ≤ e) × (e ≤ length s.now) }
     requires width { (2 ≤ N) × (N ≤ 32) × (2 * (N / 2) ≡ N) }

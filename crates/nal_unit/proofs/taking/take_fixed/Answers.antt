@@ -5,27 +5,6 @@ use Rattle.nal_unit.specs.Taking.{took-calm}
 use Rattle.nal_unit.proofs.taking.take_fixed.Goals as goal
 use Rattle.nal_unit.proofs.taking.take_fixed.Goals.{then-this-ge16, else-this-ge16, then-this-le16, else-this-le16}
 
-pub calm-requires : goal.calm-requires
-calm-requires g c =
-    let a = c.args in
-    let f : a.p + g.row.N ≤ a.e = kept_room a.s.now a.p a.e g.row.N (omega arith) (omega arith) c.requires.in_bounds in
-    elim c.if-this-ge16.branch [
-      | then-this-ge16 w ↦ (omega arith, omega arith)
-      | else-this-ge16 w ↦ (omega arith, omega (arith, leb-true 16 (a.e - a.p) (sym w.value-is ∙ c.if-e-p-ge16.true)))
-    ]
-
-pub calm-requires-else-this-le16 : goal.calm-requires-else-this-le16
-calm-requires-else-this-le16 g c =
-    let a = c.args in
-    let f : a.p + g.row.N ≤ a.e = kept_room a.s.now a.p a.e g.row.N (omega arith) (omega arith) c.requires.in_bounds in
-    (omega arith, omega arith)
-
-pub copy_fixed-requires : goal.copy_fixed-requires
-copy_fixed-requires g c =
-    let a = c.args in
-    let f : a.p + g.row.N ≤ a.e = kept_room a.s.now a.p a.e g.row.N (omega arith) (omega arith) c.requires.in_bounds in
-    (omega arith, omega arith)
-
 pub returns-then-calm-2 : goal.returns-then-calm-2
 returns-then-calm-2 g c =
     let a = c.args in

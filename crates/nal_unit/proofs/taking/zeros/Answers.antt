@@ -1,14 +1,8 @@
 -- `nal_unit::taking::zeros` meets its contract: the place is found where all four tests are met. Assumes nothing.
 use Rattle.std.proofs.Common.{sym, ◌∙◌, arith}
-use Rattle.nal_unit.specs.Kept.{kept_room}
 use Rattle.nal_unit.specs.TakingCode.{zeros-found, zeros_not, zeros_short, zeros_odd, zeros_few}
 use Rattle.nal_unit.proofs.taking.zeros.Goals as goal
 use Rattle.nal_unit.proofs.taking.zeros.Goals.{else-m-gt0-via-then-m-gt0+then-m-n+then-m-e+else-pairs, else-m-gt0-via-then-m-gt0+then-m-n+else-m-e, else-m-gt0-via-then-m-gt0+else-m-n, else-m-gt0-via-else-m-gt0}
-
-pub overflow_mul-m-then-m-n : goal.overflow_mul-m-then-m-n
-overflow_mul-m-then-m-n c =
-    let a = c.args in
-    omega (arith, kept_room a.s.now a.p a.e a.n (omega arith) (omega arith) c.requires.n_in_bounds)
 
 pub returns-then-pairs : goal.returns-then-pairs
 returns-then-pairs c =
