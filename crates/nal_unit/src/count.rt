@@ -1,4 +1,5 @@
-// The length of an escaped payload, found without writing it. The count of zero bytes is carried.
+// The length of an escaped payload, found without writing it. The count of zero bytes is carried. s, p and n stay parameters and are no
+// slice: the bytes before p are looked at, too.
 ghost use Rattle.std.specs.Prelude.{◌≡◌, ◌∷◌, [], ◌+◌, ◌^◌, ◌≤◌, ◌<◌, length};
 ghost use Rattle.lists.specs.Part.{part};
 ghost use Rattle.nal_unit.specs.EscapeCode.{counted};

@@ -1,4 +1,4 @@
-// Writing an escaped payload 64 bytes at a time.
+// Writing an escaped payload 64 bytes at a time. s, p and n stay parameters and are no slice: the bytes before p are looked at, too.
 ghost use Rattle.std.specs.Prelude.{◌≡◌, ◌+◌, ◌<◌, ◌≤◌, length};
 ghost use Rattle.lists.specs.Part.{part};
 ghost use Rattle.nal_unit.specs.Escape.{esc_from};

@@ -1,4 +1,5 @@
 // Writing an escaped payload byte by byte. The count of zero bytes is read off the output: the last two bytes that stand before the place.
+// s, p and n stay parameters and are no slice: put_bytes is public, as are those above it, which look at the bytes before p.
 ghost use Rattle.std.specs.Prelude.{◌≡◌, ◌∷◌, [], ◌+◌, ◌≤◌, length};
 ghost use Rattle.lists.specs.Part.{part};
 ghost use Rattle.nal_unit.specs.Escape.{inserts, esc_from};

@@ -1,4 +1,4 @@
-// Bytes copied as they are.
+// Bytes copied as they are. s and p, out and `at` stay parameters and are no slices: both functions are public, and their contract is that of the whole buffer.
 ghost use Rattle.std.specs.Prelude.{◌≡◌, ◌+◌, ◌≤◌, length};
 ghost use Rattle.lists.specs.Fill.{splice};
 ghost use Rattle.lists.specs.Part.{part};
