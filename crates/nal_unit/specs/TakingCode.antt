@@ -2,10 +2,10 @@
 --     ins-bits                the test of an inserted byte, by bits
 --     next_plain, next_more   where the next byte stands
 --     Taking                  bytes taken one by one
---     Calming, Counting       a stretch tested for inserted bytes, and their count
+--     Calming, Counting       a stretch tested for inserted bytes, and their count; calm_by: the test is that of each byte
 --     Skipping                bytes passed by counts
 --     Pair, Repeats           zeros in pairs, an inserted byte in each: what a black picture's payload is in the unit
---     pair_first ..           the test of three bytes; pairs-are: bytes that are found to be pairs of zeros are kept as zeros
+--     pair_first ..           the test of three bytes; pairs-are: bytes that are found to be pairs of zeros are kept as zeros; pairs-alike: found by comparing slices
 --     zeros-found ..          the place behind such zeros; zeros-behind, zeros-are: what is passed stands behind p, and is zeros
 -- Assumes nothing.
 use lib.Pointwise.{pointwise}
