@@ -1,13 +1,18 @@
 // A call of the writer, answered in outputs of several lengths.
-use crate::count::{Tally, counted, none};
-use crate::samples::{Content, DRAWN, draw};
+use crate::line::LineError;
+use crate::samples::Content;
 use crate::sum::{EMPTY, sum_of};
-use encoder::{Depths, Encoded};
-use slice::Strides;
-use ycbcr_image::{BitDepth, Kind, Session, YCbCrImage};
+use encoder::{Depths, EncodeError, Picture, Written};
+use slice::{Planes, Strides};
+use std::alloc::{AllocError, Global};
+use tally::Tally;
+use ycbcr_image::{BitDepth, Kind, Refusal, Session, YCbCrImage};
 
 // The bytes of an output.
 const BYTES: usize = 900000;
+
+// The most bytes that planes have, all together.
+const DRAWN: usize = 700000;
 
 // A start or a next call with a picture, and what the planes of that hold.
 #[derive(Clone, Copy)]
@@ -18,304 +23,187 @@ pub struct Call {
     pub seed: u64,
 }
 
-// What a call has to answer: the number, the length that is told, and the sum of the bytes that it writes.
+// A call with the picture that it lends.
 #[derive(Clone, Copy)]
-pub struct Wanted {
-    pub number: u32,
+struct Case<'a> {
+    call: Call,
+    picture: Picture<'a>,
+}
+
+impl Case<'_> {
+    // Makes the call, a next call in the session held.
+    fn make(self, held: Session, out: &mut [u8]) -> Result<Written, EncodeError> {
+        if self.call.next {
+            encoder::next(held, self.picture, out)
+        } else {
+            encoder::start(self.picture, out)
+        }
+    }
+}
+
+// What an output begins with: the length that is written, the sum of these bytes, and the bytes, as far as they are known.
+#[derive(Clone, Copy)]
+pub struct Output<'a> {
     pub length: usize,
     pub sum: u64,
+    pub bytes: &'a [u8],
 }
 
-// Calls in turn: what was compared of them, and the session that the host holds behind the last.
-#[derive(Clone, Copy)]
-pub struct Calls {
-    pub tally: Tally,
-    pub held: Session,
-}
-
-// No call yet, and a session that no call leaves.
-pub fn fresh() -> Calls {
-    Calls {
-        tally: none(),
-        held: Session {
-            width: 0,
-            height: 0,
-            kind: Kind::Mono,
-            depth: BitDepth::Depth8,
-        },
-    }
-}
-
-// What is malformed is a comparison that found a difference.
-pub fn malformed(c: Calls) -> Calls {
-    let tally = c.tally;
-    let held = c.held;
-    let counted = counted(tally, false);
-    Calls {
-        tally: counted,
-        held: held,
-    }
-}
-
-// An answer: its number, 0 or that of a refusal, the length that is told, and the session that the host holds behind it.
-#[derive(Clone, Copy)]
-struct Answer {
-    number: u32,
-    length: usize,
-    held: Session,
-}
-
-// The answer in 01's numbers. A refusal leaves the session that was held.
-fn answer_of(e: Encoded, held: Session) -> Answer {
-    match e {
-        Encoded::Written(session, n) => Answer {
-            number: 0,
-            length: n,
-            held: session,
-        },
-        Encoded::NoRoom(n) => Answer {
-            number: 9,
-            length: n,
-            held: held,
-        },
-        Encoded::Refused(k) => Answer {
-            number: k,
-            length: 0,
-            held: held,
-        },
-    }
-}
-
-// Makes the call, a next call in the session held.
-fn make(held: Session, call: Call, y: &[u8], cb: &[u8], cr: &[u8], out: &mut [u8]) -> Answer {
-    let i = call.image;
-    let kind = i.kind;
-    let y_plane = i.y;
-    let cb_plane = i.cb;
-    let cr_plane = i.cr;
-    let y_depth = y_plane.depth;
-    let cb_depth = cb_plane.depth;
-    let cr_depth = cr_plane.depth;
-    let strides = Strides {
-        y: y_plane.stride,
-        cb: cb_plane.stride,
-        cr: cr_plane.stride,
-    };
-    let depths = Depths {
-        y: y_depth,
-        cb: cb_depth,
-        cr: cr_depth,
-    };
-    if call.next {
-        let e = encoder::next(
-            held, i.width, i.height, kind, y, cb, cr, strides, depths, out,
-        );
-        return answer_of(e, held);
-    }
-    let e = encoder::start(i.width, i.height, kind, y, cb, cr, strides, depths, out);
-    answer_of(e, held)
-}
-
-// The same into the first `room` bytes alone.
-fn make_in(
-    held: Session,
-    call: Call,
-    y: &[u8],
-    cb: &[u8],
-    cr: &[u8],
-    out: &mut [u8],
-    room: usize,
-) -> Answer {
-    if room <= out.len() {
-        return make(held, call, y, cb, cr, &mut out[0..room]);
-    }
-    make(held, call, y, cb, cr, out)
-}
-
-// Whether two sessions say the same.
-fn same_session(a: Session, b: Session) -> bool {
-    let a_kind = a.kind;
-    let b_kind = b.kind;
-    let a_depth = a.depth;
-    let b_depth = b.depth;
-    a.width == b.width
-        && a.height == b.height
-        && ycbcr_image::chroma_format_idc(a_kind) == ycbcr_image::chroma_format_idc(b_kind)
-        && ycbcr_image::num_bits(a_depth) == ycbcr_image::num_bits(b_depth)
-}
-
-// The session that the host is to hold behind the call: that of the picture where it is accepted, else the same as before.
-fn session_wanted(held: Session, call: Call, number: u32) -> Session {
-    let i = call.image;
-    if number == 0 {
-        return ycbcr_image::session_of(i);
-    }
-    held
-}
-
-// Whether every byte is `fill`.
-fn is_clear(out: &[u8], fill: u8) -> bool {
-    let mut p = 0;
-    while p < out.len() {
-        if out[p] != fill {
+impl Output<'_> {
+    // Whether `out` begins with it, and has bytes `fill` behind it.
+    fn stands_in(self, out: &[u8], fill: u8) -> bool {
+        let Some((written, rest)) = out.split_at_checked(self.length) else {
             return false;
+        };
+        out.starts_with(self.bytes)
+            && sum_of(written) == self.sum
+            && rest.iter().all(|b| *b == fill)
+    }
+}
+
+// What a call has to answer, and what its output begins with then.
+#[derive(Clone, Copy)]
+struct Wanted<'a> {
+    answer: Result<Written, EncodeError>,
+    output: Output<'a>,
+}
+
+impl Wanted<'_> {
+    // A refusal, that leaves the output as it was.
+    fn refused(error: EncodeError) -> Self {
+        Wanted {
+            answer: Err(error),
+            output: Output {
+                length: 0,
+                sum: EMPTY,
+                bytes: b"",
+            },
         }
-        p += 1;
-    }
-    true
-}
-
-// The bytes from `from` to `to`; none where there are no such bytes.
-pub fn part(bytes: &[u8], from: usize, to: usize) -> &[u8] {
-    if to < from {
-        return &bytes[..0];
-    }
-    if bytes.len() < to {
-        return &bytes[..0];
-    }
-    &bytes[from..to]
-}
-
-// Whether the output begins with the bytes that are wanted, as far as they are known, and has bytes `fill` behind them.
-fn holds(out: &[u8], fill: u8, wanted: Wanted, bytes: &[u8]) -> bool {
-    let n = if wanted.number == 0 { wanted.length } else { 0 };
-    part(out, 0, bytes.len()) == bytes
-        && sum_of(part(out, 0, n)) == wanted.sum
-        && is_clear(part(out, n, out.len()), fill)
-}
-
-// Has the call answered in the first `room` bytes of an output of bytes `fill`. Compares the answer, and every byte of the output.
-fn judge_out(
-    c: Calls,
-    call: Call,
-    y: &[u8],
-    cb: &[u8],
-    cr: &[u8],
-    out: &mut [u8; BYTES],
-    room: usize,
-    fill: u8,
-    wanted: Wanted,
-    bytes: &[u8],
-) -> Calls {
-    let held = c.held;
-    let tally = c.tally;
-    let a = make_in(held, call, y, cb, cr, out, room);
-    let session = a.held;
-    let answered = a.number == wanted.number
-        && a.length == wanted.length
-        && same_session(session, session_wanted(held, call, wanted.number));
-    let t = counted(counted(tally, answered), holds(out, fill, wanted, bytes));
-    Calls {
-        tally: t,
-        held: session,
     }
 }
 
-// The same in an output that is made for it.
-fn judge_in(
-    c: Calls,
-    call: Call,
-    y: &[u8],
-    cb: &[u8],
-    cr: &[u8],
-    room: usize,
-    fill: u8,
-    wanted: Wanted,
-    bytes: &[u8],
-) -> Calls {
-    let mut out = [fill; BYTES];
-    judge_out(c, call, y, cb, cr, &mut out, room, fill, wanted, bytes)
+// A host that makes calls in turn: what was compared of them, and the session that it holds behind the last.
+#[derive(Drop)]
+pub struct Host {
+    pub alloc: Global,
+    pub tally: Tally,
+    held: Session,
 }
 
-// All that is compared of an accepted call: what it writes where there is more room than it needs, and where there is just that; and
-// a byte short, and in no room at all, the refusal with 9.
-fn judge_written(
-    c: Calls,
-    call: Call,
-    y: &[u8],
-    cb: &[u8],
-    cr: &[u8],
-    wanted: Wanted,
-    bytes: &[u8],
-) -> Calls {
-    let n = wanted.length;
-    if n == 0 {
-        return malformed(c);
+impl Host {
+    // No call yet, and a session that no call leaves.
+    pub fn new(alloc: Global) -> Self {
+        Host {
+            alloc,
+            tally: Tally::default(),
+            held: Session {
+                width: 0,
+                height: 0,
+                kind: Kind::Mono,
+                depth: BitDepth::Depth8,
+            },
+        }
     }
-    if BYTES < n {
-        return malformed(c);
-    }
-    let short = Wanted {
-        number: 9,
-        length: n,
-        sum: EMPTY,
-    };
-    let c = judge_in(c, call, y, cb, cr, BYTES, 255, wanted, bytes);
-    let c = judge_in(c, call, y, cb, cr, n, 0, wanted, bytes);
-    let c = judge_in(c, call, y, cb, cr, n - 1, 255, short, b"");
-    judge_in(c, call, y, cb, cr, 0, 0, short, b"")
-}
 
-// All that is compared of a call; of a refused one the refusal where there is room, and where there is none, before 9.
-fn judge_planes(
-    c: Calls,
-    call: Call,
-    y: &[u8],
-    cb: &[u8],
-    cr: &[u8],
-    wanted: Wanted,
-    bytes: &[u8],
-) -> Calls {
-    if wanted.number == 0 {
-        return judge_written(c, call, y, cb, cr, wanted, bytes);
+    // Has the call answered in the first `room` bytes of an output of bytes `fill`. Compares the answer, with the session that the host holds then, and every
+    // byte of the output.
+    fn judge_in(
+        &mut self,
+        case: Case<'_>,
+        room: usize,
+        fill: u8,
+        wanted: Wanted<'_>,
+    ) -> Result<(), AllocError> {
+        let mut out = vec![in self.alloc; fill; BYTES]?;
+        let lent = room.min(out.len());
+        let answer = case.make(self.held, &mut out[..lent]);
+        if let Ok(written) = answer {
+            self.held = written.session;
+        }
+        self.tally.count(answer == wanted.answer);
+        self.tally.count(wanted.output.stands_in(&out, fill));
+        Ok(())
     }
-    let c = judge_in(c, call, y, cb, cr, BYTES, 255, wanted, b"");
-    judge_in(c, call, y, cb, cr, 0, 0, wanted, b"")
-}
 
-// The same of planes that stand one behind the other, by the places where they end.
-fn judge_drawn(
-    c: Calls,
-    call: Call,
-    planes: &[u8; DRAWN],
-    y_end: usize,
-    cb_end: usize,
-    cr_end: usize,
-    wanted: Wanted,
-    bytes: &[u8],
-) -> Calls {
-    judge_planes(
-        c,
-        call,
-        part(planes, 0, y_end),
-        part(planes, y_end, cb_end),
-        part(planes, cb_end, cr_end),
-        wanted,
-        bytes,
-    )
-}
+    // All that is compared of an accepted call: what it writes where there is more room than it needs, and where there is just that; and
+    // a byte short, and in no room at all, the refusal for want of room.
+    fn judge_written(&mut self, case: Case<'_>, output: Output<'_>) -> Result<(), LineError> {
+        let length = output.length;
+        if length == 0 || BYTES < length {
+            return Err(LineError::Malformed);
+        }
+        let written = Wanted {
+            answer: Ok(Written {
+                session: case.call.image.session(),
+                length,
+            }),
+            output,
+        };
+        let short = Wanted::refused(EncodeError::NoRoom(length));
+        self.judge_in(case, BYTES, 255, written)?;
+        self.judge_in(case, length, 0, written)?;
+        self.judge_in(case, length - 1, 255, short)?;
+        self.judge_in(case, 0, 0, short)?;
+        Ok(())
+    }
 
-// Draws the planes of a call, and judges its answer and what it writes, which begins with `bytes`. Planes of more than 700,000 bytes
-// are malformed.
-pub fn judge(c: Calls, call: Call, wanted: Wanted, bytes: &[u8]) -> Calls {
-    let i = call.image;
-    let content = call.content;
-    let p = i.y;
-    let q = i.cb;
-    let r = i.cr;
-    let y = p.len;
-    let cb = q.len;
-    let cr = r.len;
-    if DRAWN < y {
-        return malformed(c);
+    // All that is compared of a refused call: the refusal where there is room, and where there is none, before the one for want of room.
+    fn judge_refused(&mut self, case: Case<'_>, refusal: Refusal) -> Result<(), LineError> {
+        let refused = Wanted::refused(refusal.into());
+        self.judge_in(case, BYTES, 255, refused)?;
+        self.judge_in(case, 0, 0, refused)?;
+        Ok(())
     }
-    if DRAWN - y < cb {
-        return malformed(c);
+
+    // Draws the planes of a call, and judges its answer and what it writes. Planes of more than DRAWN bytes are malformed, and so is a length that no call
+    // writes.
+    pub fn judge(
+        &mut self,
+        call: Call,
+        wanted: Result<Output<'_>, Refusal>,
+    ) -> Result<(), LineError> {
+        let YCbCrImage {
+            width,
+            height,
+            kind,
+            y,
+            cb,
+            cr,
+        } = call.image;
+        let drawn = y.len.saturating_add(cb.len).saturating_add(cr.len);
+        if DRAWN < drawn {
+            return Err(LineError::Malformed);
+        }
+        let mut bytes = vec![in self.alloc; 0u8; drawn]?;
+        call.content.draw(&mut bytes, call.seed);
+        let (y_bytes, chroma) = bytes.split_at(y.len);
+        let (cb_bytes, cr_bytes) = chroma.split_at(cb.len);
+        let planes = Planes {
+            y: y_bytes,
+            cb: cb_bytes,
+            cr: cr_bytes,
+            strides: Strides {
+                y: y.stride,
+                cb: cb.stride,
+                cr: cr.stride,
+            },
+        };
+        let depths = Depths {
+            y: y.depth,
+            cb: cb.depth,
+            cr: cr.depth,
+        };
+        let picture = Picture {
+            width,
+            height,
+            kind,
+            planes,
+            depths,
+        };
+        let case = Case { call, picture };
+        match wanted {
+            Ok(output) => self.judge_written(case, output),
+            Err(refusal) => self.judge_refused(case, refusal),
+        }
     }
-    if DRAWN - y - cb < cr {
-        return malformed(c);
-    }
-    let mut planes = [0u8; DRAWN];
-    draw(&mut planes, y + cb + cr, content, call.seed);
-    judge_drawn(c, call, &planes, y, y + cb, y + cb + cr, wanted, bytes)
 }

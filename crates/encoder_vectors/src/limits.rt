@@ -1,12 +1,14 @@
 // The limits of widths and heights: pictures within them are accepted, and those beyond are refused with 1, 3, 4 and 5, their planes being long
 // enough. The sequence parameter sets are those that less-avc writes.
-use crate::count::Tally;
 use crate::list::judge_text;
+use std::alloc::{AllocError, Global};
+use tally::Tally;
 
 // 16,384 columns, and 16,384 rows. Both at once: the size passes, and a plane is refused, in each kind. Then more of either, none, and the largest
 // number.
-pub fn sizes() -> Tally {
+pub fn sizes(alloc: Global) -> Result<Tally, AllocError> {
     judge_text(
+        alloc,
         b"start mono all 8 8 8 16384 1 16384 262144 0 0 0 0 16 0 264224 plain 1024 6764000af3c00400de109b01\n\
         start mono all 8 8 8 1 16384 16 262144 0 0 0 0 16 0 264224 plain 1024 6764000af3d0020058439b01\n\
         start mono any 8 8 8 16384 16384 16384 262144 0 0 0 0 1 8\n\
@@ -36,8 +38,9 @@ pub fn sizes() -> Tally {
 
 // The narrowest pictures of mono 8 and of colour 12, and colour pictures of 16 rows. Then widths that are no multiple of 4 in colour 12, widths
 // that are odd in any kind but mono 8, and heights that are odd in colour.
-pub fn shapes() -> Tally {
+pub fn shapes(alloc: Global) -> Result<Tally, AllocError> {
     judge_text(
+        alloc,
         b"start mono all 8 8 8 1 16 16 256 0 0 0 0 16 0 288 plain 1 6764000af3dd8439b010\n\
         start mono all 8 8 8 1 1 16 256 0 0 0 0 16 0 289 plain 1 6764000af3dd842109b010\n\
         start colour all 12 12 12 4 16 24 384 12 96 12 96 16 0 609 plain 1 67f4000aa294f767e6c040\n\

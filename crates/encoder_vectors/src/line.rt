@@ -3,132 +3,171 @@
 //     start colour any 8 8 8 18 34 32 1536 16 384 16 384 7
 //
 // is a start call with a colour picture. Its content; the depths of Y, Cb and Cr; width and height; the stride and the bytes of Y, of Cb
-// and of Cr; the seed.
+// and of Cr; the seed. Behind it stands one of
+//
+//     7
+//     0 414 9090160299649211884 000000016742000a..
+//     0 414 plain 1 6742000afb936020
+//
+// that is the number of a refusal; or 0, the length written, the sum of the bytes, and the bytes themselves or `-`; or 0, the length, and how
+// many macroblocks and which sequence parameter set plain.rt writes, `-` for none.
 use crate::call::Call;
 use crate::samples::Content;
-use crate::words::{BAD, Words, is, number, short, word};
-use std::num::wrapping_add_usize;
-use ycbcr_image::{BitDepth, DataPlane, Kind, YCbCrImage};
+use crate::words::{number, short};
+use std::alloc::AllocError;
+use std::str::Split;
+use ycbcr_image::{BitDepth, DataPlane, Kind, Refusal, YCbCrImage};
 
-// How many words it has.
-pub const CALL: usize = 15;
+// Why a line was not judged.
+#[derive(Drop)]
+pub enum LineError {
+    Malformed,
+    Memory(AllocError),
+}
+
+impl From<AllocError> for LineError {
+    fn from(e: AllocError) -> LineError {
+        LineError::Memory(e)
+    }
+}
+
+// The answer to a call, as a line gives it.
+#[derive(Clone, Copy)]
+pub enum Answer<'a> {
+    Refused(Refusal),
+    Bytes {
+        length: usize,
+        sum: u64,
+        bytes: &'a str,
+    },
+    Plain {
+        length: usize,
+        count: usize,
+        sps: &'a str,
+    },
+}
+
+// Whether a word says that the call is a next call.
+fn is_next(word: &str) -> Option<bool> {
+    match word {
+        "start" => Some(false),
+        "next" => Some(true),
+        _ => None,
+    }
+}
+
+// The kind that a word names.
+fn kind(word: &str) -> Option<Kind> {
+    match word {
+        "mono" => Some(Kind::Mono),
+        "colour" => Some(Kind::Colour),
+        _ => None,
+    }
+}
 
 // The content that a word names.
-fn content(word: &[u8]) -> Content {
-    if word == b"all".as_slice() {
-        return Content::All;
-    }
-    if word == b"any".as_slice() {
-        return Content::Any;
-    }
-    if word == b"none".as_slice() {
-        return Content::None;
-    }
-    if word == b"few".as_slice() {
-        return Content::Few;
-    }
-    if word == b"many".as_slice() {
-        return Content::Many;
-    }
-    Content::Unknown
-}
-
-// Whether it names one.
-fn is_known(content: Content) -> bool {
-    match content {
-        Content::Unknown => false,
-        _ => true,
+fn content(word: &str) -> Option<Content> {
+    match word {
+        "all" => Some(Content::All),
+        "any" => Some(Content::Any),
+        "none" => Some(Content::None),
+        "few" => Some(Content::Few),
+        "many" => Some(Content::Many),
+        _ => None,
     }
 }
 
-// Whether the first three words are a call, a kind and a content.
-fn has_names(line: &[u8], w: Words) -> bool {
-    let call = is(line, w, 0, b"start") || is(line, w, 0, b"next");
-    let kind = is(line, w, 1, b"mono") || is(line, w, 1, b"colour");
-    call && kind && is_known(content(word(line, w, 2)))
-}
-
-// Whether the word number `k` is a depth.
-fn is_depth(line: &[u8], w: Words, k: usize) -> bool {
-    is(line, w, k, b"8") || is(line, w, k, b"12")
-}
-
-// Whether the other words are three depths and numbers.
-fn has_numbers(line: &[u8], w: Words) -> bool {
-    let mut k = 6;
-    while k < CALL {
-        if number(line, w, k) == BAD {
-            return false;
-        }
-        k += 1;
-    }
-    is_depth(line, w, 3) && is_depth(line, w, 4) && is_depth(line, w, 5)
-}
-
-// The depth that the word number `k` is.
-fn depth(line: &[u8], w: Words, k: usize) -> BitDepth {
-    if is(line, w, k, b"12") {
-        return BitDepth::Depth12;
-    }
-    BitDepth::Depth8
-}
-
-// The kind that the second word names.
-fn kind(line: &[u8], w: Words) -> Kind {
-    if is(line, w, 1, b"colour") {
-        return Kind::Colour;
-    }
-    Kind::Mono
-}
-
-// A plane whose stride is the word number `k`, and whose bytes are the next.
-fn plane(line: &[u8], w: Words, depth: BitDepth, k: usize) -> DataPlane {
-    let stride = number(line, w, k);
-    let len = number(line, w, wrapping_add_usize(k, 1));
-    DataPlane {
-        len: len as usize,
-        stride: stride as usize,
-        depth: depth,
+// The depth that a word is.
+fn depth(word: &str) -> Option<BitDepth> {
+    match word {
+        "8" => Some(BitDepth::Depth8),
+        "12" => Some(BitDepth::Depth12),
+        _ => None,
     }
 }
 
-// The picture.
-fn image(line: &[u8], w: Words) -> YCbCrImage {
-    let kind = kind(line, w);
-    let y = plane(line, w, depth(line, w, 3), 8);
-    let cb = plane(line, w, depth(line, w, 4), 10);
-    let cr = plane(line, w, depth(line, w, 5), 12);
-    YCbCrImage {
-        width: short(line, w, 6),
-        height: short(line, w, 7),
-        kind: kind,
-        y: y,
-        cb: cb,
-        cr: cr,
+// The refusal of a number.
+fn refusal(number: u32) -> Option<Refusal> {
+    match number {
+        1 => Some(Refusal::Size),
+        2 => Some(Refusal::Depths),
+        3 => Some(Refusal::Colour12Width),
+        4 => Some(Refusal::OddWidth),
+        5 => Some(Refusal::OddHeight),
+        6 => Some(Refusal::OtherThanSession),
+        7 => Some(Refusal::Stride),
+        8 => Some(Refusal::Rows),
+        _ => None,
     }
 }
 
-// What the words of a call say.
-#[derive(Clone, Copy)]
-pub enum Parsed {
-    Call(Call),
-    Malformed,
+// A plane, of the next two words.
+fn plane(words: &mut Split<'_, char>, depth: BitDepth) -> Option<DataPlane> {
+    let stride = number(words.next()?)? as usize;
+    let len = number(words.next()?)? as usize;
+    Some(DataPlane { len, stride, depth })
 }
 
 // Reads the words of a call.
-pub fn parse(line: &[u8], w: Words) -> Parsed {
-    if !has_names(line, w) {
-        return Parsed::Malformed;
-    }
-    if !has_numbers(line, w) {
-        return Parsed::Malformed;
-    }
-    let image = image(line, w);
-    let content = content(word(line, w, 2));
-    Parsed::Call(Call {
-        next: is(line, w, 0, b"next"),
-        image: image,
-        content: content,
-        seed: number(line, w, 14),
+pub fn read_call(words: &mut Split<'_, char>) -> Option<Call> {
+    let next = is_next(words.next()?)?;
+    let kind = kind(words.next()?)?;
+    let content = content(words.next()?)?;
+    let y_depth = depth(words.next()?)?;
+    let cb_depth = depth(words.next()?)?;
+    let cr_depth = depth(words.next()?)?;
+    let width = short(words.next()?)?;
+    let height = short(words.next()?)?;
+    let y = plane(words, y_depth)?;
+    let cb = plane(words, cb_depth)?;
+    let cr = plane(words, cr_depth)?;
+    let seed = number(words.next()?)?;
+    let image = YCbCrImage {
+        width,
+        height,
+        kind,
+        y,
+        cb,
+        cr,
+    };
+    Some(Call {
+        next,
+        image,
+        content,
+        seed,
     })
+}
+
+// Reads the words of an accepted call's answer, behind the 0.
+fn read_accepted<'a>(words: &mut Split<'a, char>) -> Option<Answer<'a>> {
+    let length = number(words.next()?)? as usize;
+    let sum = words.next()?;
+    let word = words.next()?;
+    let Some(sps) = words.next() else {
+        let sum = number(sum)?;
+        return Some(Answer::Bytes {
+            length,
+            sum,
+            bytes: word,
+        });
+    };
+    if sum != "plain" {
+        return None;
+    }
+    let count = number(word)? as usize;
+    Some(Answer::Plain { length, count, sps })
+}
+
+// Reads the words of an answer, the last of a line.
+pub fn read_answer<'a>(words: &mut Split<'a, char>) -> Option<Answer<'a>> {
+    let number = short(words.next()?)?;
+    let answer = if number == 0 {
+        read_accepted(words)?
+    } else {
+        Answer::Refused(refusal(number)?)
+    };
+    if words.next().is_some() {
+        return None;
+    }
+    Some(answer)
 }

@@ -1,141 +1,120 @@
-// Lines of calls and their answers. Behind the words of a call stands one of
-//
-//     7
-//     0 414 9090160299649211884 000000016742000a..
-//     0 414 plain 1 6742000afb936020
-//
-// that is the number of a refusal; or 0, the length written, the sum of the bytes, and the bytes themselves or `-`; or 0, the length, and how
-// many macroblocks and which sequence parameter set plain.rt writes, `-` for none.
-use crate::call::{Call, Calls, Wanted, fresh, judge, malformed, part};
-use crate::count::Tally;
-use crate::line::{CALL, Parsed, parse};
-use crate::plain::{PLAIN, put_call};
-use crate::sum::{EMPTY, sum_of};
-use crate::words::{BAD, Words, decode, is, number, short, split, word};
-use std::io;
+// Lists of calls and their answers, a line for each (line.rt).
+use crate::call::{Call, Host, Output};
+use crate::line::{Answer, LineError, read_answer, read_call};
+use crate::plain::bytes_of;
+use crate::sum::sum_of;
+use std::alloc::{AllocError, Global};
 use std::io::Read;
-use std::num::wrapping_add_usize;
+use std::{io, str};
+use tally::Tally;
 
-// The room for the bytes that a line gives.
+// The most bytes that a line gives.
 const GIVEN: usize = 2000;
 
-// The room for a sequence parameter set.
+// The most bytes of a sequence parameter set.
 const SET: usize = 32;
+
+// The most macroblocks that plain.rt writes.
+const MACROBLOCKS: usize = 1024;
 
 // The length that a list on standard input stays below.
 const LIST: usize = 300000;
 
-// Judges an accepted call by the sum, and by the bytes where they are given.
-fn judge_sum(c: Calls, call: Call, line: &[u8], w: Words) -> Calls {
-    let length = number(line, w, CALL + 1);
-    let sum = number(line, w, CALL + 2);
-    let mut bytes = [0u8; GIVEN];
-    let n = decode(word(line, w, CALL + 3), &mut bytes);
-    if GIVEN < n {
-        return malformed(c);
+impl Host {
+    // The bytes of a word, `most` at most.
+    fn decode(&self, word: &str, most: usize) -> Result<Vec<u8>, LineError> {
+        hex_words::decode(self.alloc, word.as_bytes(), most)?.ok_or(LineError::Malformed)
     }
-    if sum == BAD || n != 0 && n as u64 != length {
-        return malformed(c);
-    }
-    let wanted = Wanted {
-        number: 0,
-        length: length as usize,
-        sum: sum,
-    };
-    judge(c, call, wanted, &bytes[0..n])
-}
 
-// Has a call accepted that writes the first `n` of these bytes.
-fn judge_first(c: Calls, call: Call, bytes: &[u8; PLAIN], n: usize) -> Calls {
-    let first = part(bytes, 0, n);
-    let wanted = Wanted {
-        number: 0,
-        length: n,
-        sum: sum_of(first),
-    };
-    judge(c, call, wanted, first)
-}
-
-// Has a call accepted that writes what plain.rt does, and `length` bytes.
-fn judge_put(c: Calls, call: Call, length: u64, count: u64, sps: &[u8]) -> Calls {
-    if 1024 < count {
-        return malformed(c);
-    }
-    let mut bytes = [0u8; PLAIN];
-    let n = put_call(&mut bytes, call, sps, count as usize);
-    if n as u64 != length {
-        return malformed(c);
-    }
-    judge_first(c, call, &bytes, n)
-}
-
-// Judges an accepted call by what plain.rt writes.
-fn judge_plain(c: Calls, call: Call, line: &[u8], w: Words) -> Calls {
-    let length = number(line, w, CALL + 1);
-    let count = number(line, w, CALL + 3);
-    let mut sps = [0u8; SET];
-    let n = decode(word(line, w, CALL + 4), &mut sps);
-    if SET < n {
-        return malformed(c);
-    }
-    judge_put(c, call, length, count, &sps[0..n])
-}
-
-// Judges a call by the answer behind it.
-fn judge_answer(c: Calls, call: Call, line: &[u8], w: Words) -> Calls {
-    let number = short(line, w, CALL);
-    if number == 0 && w.count == CALL + 4 {
-        return judge_sum(c, call, line, w);
-    }
-    if number == 0 && w.count == CALL + 5 && is(line, w, CALL + 2, b"plain") {
-        return judge_plain(c, call, line, w);
-    }
-    if 1 <= number && number <= 8 && w.count == CALL + 1 {
-        let wanted = Wanted {
-            number: number,
-            length: 0,
-            sum: EMPTY,
-        };
-        return judge(c, call, wanted, b"");
-    }
-    malformed(c)
-}
-
-// Judges a line.
-fn judge_line(c: Calls, line: &[u8]) -> Calls {
-    let w = split(line);
-    match parse(line, w) {
-        Parsed::Call(call) => judge_answer(c, call, line, w),
-        Parsed::Malformed => malformed(c),
-    }
-}
-
-// Judges all lines of a text, each in the session that those before it left. What stands behind the last line end is malformed.
-pub fn judge_text(text: &[u8]) -> Tally {
-    let mut c = fresh();
-    let mut start = 0;
-    let mut i = 0;
-    while i < text.len() {
-        if text[i] == b'\n' {
-            c = judge_line(c, part(text, start, i));
-            start = wrapping_add_usize(i, 1);
+    // Judges an accepted call by the sum, and by the bytes where they are given.
+    fn judge_bytes(
+        &mut self,
+        call: Call,
+        length: usize,
+        sum: u64,
+        word: &str,
+    ) -> Result<(), LineError> {
+        let bytes = self.decode(word, GIVEN)?;
+        if !bytes.is_empty() && bytes.len() != length {
+            return Err(LineError::Malformed);
         }
-        i += 1;
+        let output = Output {
+            length,
+            sum,
+            bytes: &bytes,
+        };
+        self.judge(call, Ok(output))
     }
-    if start == text.len() {
-        return c.tally;
+
+    // Judges an accepted call by what plain.rt writes.
+    fn judge_plain(
+        &mut self,
+        call: Call,
+        length: usize,
+        count: usize,
+        sps: &str,
+    ) -> Result<(), LineError> {
+        let sps = self.decode(sps, SET)?;
+        if MACROBLOCKS < count {
+            return Err(LineError::Malformed);
+        }
+        let bytes = bytes_of(self.alloc, call, &sps, count)?;
+        if bytes.len() != length {
+            return Err(LineError::Malformed);
+        }
+        let output = Output {
+            length,
+            sum: sum_of(&bytes),
+            bytes: &bytes,
+        };
+        self.judge(call, Ok(output))
     }
-    let c = malformed(c);
-    c.tally
+
+    // Judges a line.
+    fn judge_line(&mut self, line: &[u8]) -> Result<(), LineError> {
+        let line = str::from_utf8(line).map_err(|_| LineError::Malformed)?;
+        let mut words = line.split(' ');
+        let call = read_call(&mut words).ok_or(LineError::Malformed)?;
+        match read_answer(&mut words).ok_or(LineError::Malformed)? {
+            Answer::Refused(refusal) => self.judge(call, Err(refusal)),
+            Answer::Bytes { length, sum, bytes } => self.judge_bytes(call, length, sum, bytes),
+            Answer::Plain { length, count, sps } => self.judge_plain(call, length, count, sps),
+        }
+    }
+
+    // The same of what stands from one line end to the next, which it begins behind. What is malformed counts as a comparison that found a difference, and so
+    // does what stands behind the last line end.
+    fn judge_piece(&mut self, piece: &[u8]) -> Result<(), AllocError> {
+        let judged = match piece.strip_suffix(b"\n") {
+            Some(line) => self.judge_line(line),
+            None => Err(LineError::Malformed),
+        };
+        match judged {
+            Err(LineError::Malformed) => self.tally.count(false),
+            Err(LineError::Memory(e)) => return Err(e),
+            Ok(()) => {}
+        }
+        Ok(())
+    }
+}
+
+// Judges all lines of a text, each in the session that those before it left.
+pub fn judge_text(alloc: Global, text: &[u8]) -> Result<Tally, AllocError> {
+    let mut host = Host::new(alloc);
+    for piece in text.split_inclusive(|b| *b == b'\n') {
+        host.judge_piece(piece)?;
+    }
+    Ok(host.tally)
 }
 
 // Judges the list on standard input. An empty one is malformed, and so is one of LIST bytes or more.
-pub fn judge_input(rt: &(impl Input + Alloc)) -> io::Result<Tally> {
+pub fn judge_input(rt: &(impl Input + AllocGlobal)) -> io::Result<Tally> {
     let mut text = Vec::new(rt.alloc());
     rt.reader().take(LIST as u64).read_to_end(&mut text)?;
     if text.is_empty() || text.len() == LIST {
-        let c = malformed(fresh());
-        return Ok(c.tally);
+        let mut tally = Tally::default();
+        tally.count(false);
+        return Ok(tally);
     }
-    Ok(judge_text(&text))
+    Ok(judge_text(rt.alloc(), &text)?)
 }

@@ -3,7 +3,6 @@
 #![tactic(auto)]
 
 mod call;
-mod count;
 mod limits;
 mod line;
 mod list;
@@ -14,54 +13,53 @@ mod samples;
 mod sum;
 mod words;
 
-use count::{Tally, none, tell};
 use std::io;
+use tally::Tally;
 
 // The pictures of 01, and the limits.
-fn run_pictures(rt: &impl Print, t: Tally) -> io::Result<Tally> {
-    let t = tell(rt, t, b"the pictures of 01", pictures::paper())?;
-    let t = tell(
+fn run_pictures(rt: &(impl Print + AllocGlobal), t: &mut Tally) -> io::Result<()> {
+    t.tell(rt, "the pictures of 01", pictures::paper(rt.alloc())?)?;
+    t.tell(
         rt,
-        t,
-        b"mono accepted with chroma planes that no picture has",
-        pictures::unread(),
+        "mono accepted with chroma planes that no picture has",
+        pictures::unread(rt.alloc())?,
     )?;
-    let t = tell(
+    t.tell(
         rt,
-        t,
-        b"sizes of 16,384 accepted, others refused with 1",
-        limits::sizes(),
+        "sizes of 16,384 accepted, others refused with 1",
+        limits::sizes(rt.alloc())?,
     )?;
-    tell(
+    t.tell(
         rt,
-        t,
-        b"widths and heights of each kind accepted, others refused with 3, 4 and 5",
-        limits::shapes(),
+        "widths and heights of each kind accepted, others refused with 3, 4 and 5",
+        limits::shapes(rt.alloc())?,
     )
 }
 
 // The refusals.
-fn run_refusals(rt: &impl Print, t: Tally) -> io::Result<Tally> {
-    let t = tell(rt, t, b"depths refused with 2", refusals::depths())?;
-    let t = tell(
+fn run_refusals(rt: &(impl Print + AllocGlobal), t: &mut Tally) -> io::Result<()> {
+    t.tell(rt, "depths refused with 2", refusals::depths(rt.alloc())?)?;
+    t.tell(
         rt,
-        t,
-        b"next calls in their session accepted, others refused with 6",
-        refusals::sessions(),
+        "next calls in their session accepted, others refused with 6",
+        refusals::sessions(rt.alloc())?,
     )?;
-    let t = tell(rt, t, b"planes refused with 7 and 8", refusals::planes())?;
-    tell(
+    t.tell(
         rt,
-        t,
-        b"two faults refused with the first",
-        refusals::order(),
+        "planes refused with 7 and 8",
+        refusals::planes(rt.alloc())?,
+    )?;
+    t.tell(
+        rt,
+        "two faults refused with the first",
+        refusals::order(rt.alloc())?,
     )
 }
 
 fn main(rt: HostRuntime) -> io::Result<()> {
-    let t = run_pictures(&rt, none())?;
-    let t = run_refusals(&rt, t)?;
-    let t = tell(&rt, t, b"the calls of the list", list::judge_input(&rt)?)?;
-    tell(&rt, none(), b"all", t)?;
-    Ok(())
+    let mut t = Tally::default();
+    run_pictures(&rt, &mut t)?;
+    run_refusals(&rt, &mut t)?;
+    t.tell(&rt, "the calls of the list", list::judge_input(&rt)?)?;
+    t.print(&rt, "all")
 }

@@ -1,10 +1,12 @@
 // Pictures that are refused for their depths, for the session, for their planes, and for two things at once.
-use crate::count::Tally;
 use crate::list::judge_text;
+use std::alloc::{AllocError, Global};
+use tally::Tally;
 
 // Depths that differ, in colour: 2.
-pub fn depths() -> Tally {
+pub fn depths(alloc: Global) -> Result<Tally, AllocError> {
     judge_text(
+        alloc,
         b"start colour any 8 8 12 16 16 24 384 12 96 12 96 1 2\n\
         start colour any 8 12 8 16 16 24 384 12 96 12 96 1 2\n\
         start colour any 8 12 12 16 16 24 384 12 96 12 96 1 2\n\
@@ -16,8 +18,9 @@ pub fn depths() -> Tally {
 
 // Next calls in a session that no call left, and then in those of mono 8, colour 8 and colour 12: they are accepted with the same width, height, kind
 // and depth, and refused with 6 with another. A refusal leaves the session, one of a start call too.
-pub fn sessions() -> Tally {
+pub fn sessions(alloc: Global) -> Result<Tally, AllocError> {
     judge_text(
+        alloc,
         b"next mono any 8 8 8 16 16 16 256 0 0 0 0 1 6\n\
         next mono any 8 8 8 0 0 16 256 0 0 0 0 1 1\n\
         start mono all 8 8 8 16 16 16 256 0 0 0 0 16 0 286 plain 1 6764000af3dc9b01\n\
@@ -49,8 +52,9 @@ pub fn sessions() -> Tally {
 
 // Strides a byte short and 0: 7. Planes a byte short, without a byte, without the slack of the last row, and with a stride near the
 // largest number: 8.
-pub fn planes() -> Tally {
+pub fn planes(alloc: Global) -> Result<Tally, AllocError> {
     judge_text(
+        alloc,
         b"start mono any 8 8 8 16 16 15 256 0 0 0 0 1 7\n\
         start mono any 8 8 8 16 16 0 256 0 0 0 0 1 7\n\
         start mono any 8 8 8 16 16 16 255 0 0 0 0 1 8\n\
@@ -84,8 +88,9 @@ pub fn planes() -> Tally {
 
 // Two faults each, in the session of colour 8: the first of the table is answered. Of those of planes Y's come first, then Cb's, then Cr's, and 7
 // before 8 in each.
-pub fn order() -> Tally {
+pub fn order(alloc: Global) -> Result<Tally, AllocError> {
     judge_text(
+        alloc,
         b"start colour all 8 8 8 16 16 16 256 8 64 8 64 16 0 414 plain 1 6742000afb936020\n\
         start colour any 8 12 12 16388 16 16 256 8 64 8 64 1 1\n\
         start colour any 12 12 12 16386 16 24 384 12 96 12 96 1 1\n\
