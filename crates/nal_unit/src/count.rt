@@ -8,7 +8,7 @@ ghost use Rattle.nal_unit.specs.CountCode.{Counts};
 use crate::calm;
 
 // A stretch of payload: the bytes that its escape has, and the zero bytes counted behind it.
-#[derive(Clone, Copy)]
+#[derive(Clone, Copy, Debug, PartialEq, Eq)]
 pub struct Count {
     pub n: usize,
     pub z: usize,
