@@ -14,7 +14,7 @@ use nal_unit::count::Count;
 use ycbcr_image::Session;
 
 impl Picture<'_> {
-    // The macroblock in row my and column mx, after z counted zeros.
+    // The macroblock in row my and column mx, after z counted zeros. No heap: it is laid into a fixed array, which has room for the longest.
     fn count_macroblock(&self, my: usize, mx: usize, z: usize) -> Count
         requires my_bound { (my < frame_height_in_mbs (sequence_of self.now.s)) × (mx < pic_width_in_mbs (sequence_of self.now.s)) }
         requires z_bound { z ≤ 2 }

@@ -15,7 +15,7 @@ ghost use Rattle.slice.specs.Picture.{picture_length};
 use ycbcr_image::Session;
 
 // The bytes from one row to the next in each lent plane.
-#[derive(Clone, Copy)]
+#[derive(Clone, Copy, Debug, PartialEq, Eq)]
 pub struct Strides {
     pub y: usize,
     pub cb: usize,
@@ -23,7 +23,7 @@ pub struct Strides {
 }
 
 // The lent planes of a picture.
-#[derive(Clone, Copy)]
+#[derive(Clone, Copy, Debug, PartialEq, Eq)]
 pub struct Planes<'a> {
     pub y: &'a [u8],
     pub cb: &'a [u8],
