@@ -2,6 +2,8 @@ pub mod Judge
 pub mod Heads
 pub mod Bands
 pub mod Samples
+pub mod Units
+pub mod Rows
 pub mod Refusals
 pub mod Read
 pub mod ReadCode

@@ -10,11 +10,12 @@ ghost use Rattle.ycbcr_image.specs.Sizes.{sequence_of};
 ghost use Rattle.ycbcr_image.specs.Refusals.{accepted};
 ghost use Rattle.reader.specs.Judge.{refused, counted, keep, sps_verdict, pps_verdict, short, formless, held_verdict, judge};
 ghost use Rattle.reader.specs.Refusals.{number};
-ghost use Rattle.reader.specs.Heads.{UnitAt, payload_at};
+ghost use Rattle.reader.specs.Units.{IsUnit, payload_of};
 ghost use Rattle.reader.specs.Read.{held_of, rooms};
 ghost use Rattle.reader.specs.ReadCode.{Judged, Shown};
 
-use crate::{Answer, HeldSets, Reader, Refusal, Step, heads, samples, sets};
+use crate::unit::NalUnit;
+use crate::{Answer, HeldSets, Reader, Refusal, Step};
 use nal_unit::{scan, taking};
 use ycbcr_image::Session;
 
@@ -33,24 +34,22 @@ impl HeldSets {
     }
 }
 
-// A unit of a take that a call at `place` has found while these sets were held: where its bytes begin and stop, and where the next start code is, or the end.
+// A unit that a call at `place` has found while these sets were held, and where the next start code is, or the end.
 #[derive(Clone, Copy)]
-struct Unit<'a> {
-    take: &'a [u8],
+struct Found<'a> {
+    unit: NalUnit<'a>,
     place: usize,
     sets: HeldSets,
-    begin: usize,
-    stop: usize,
     next: usize,
 }
 
-impl Unit<'_> {
+impl Found<'_> {
     // A refusal, which keeps the held sets and moves on.
     fn refused(self, refusal: Refusal) -> Step
-        ensures { Judged (keep (held_of self.entry.sets) (refused (number refusal))) self.entry.place self.entry.begin self.entry.next result }
+        ensures { Judged (keep (held_of self.entry.sets) (refused (number refusal))) self.entry.place self.entry.unit.begin self.entry.next result }
     {
         Step {
-            answer: Answer::Refused(refusal, self.begin),
+            answer: Answer::Refused(refusal, self.unit.begin),
             reader: Reader {
                 place: self.next,
                 sets: self.sets,
@@ -60,10 +59,10 @@ impl Unit<'_> {
 
     // A unit with the header of a sequence parameter set: held from now on where none is, else compared with the one that is held.
     fn sps(self) -> Step
-        requires { UnitAt self.take.now self.begin self.stop }
-        ensures { Judged (sps_verdict (held_of self.entry.sets) (counted (held_of self.entry.sets)) (read_sps base_level (payload_at self.entry.take.now self.entry.begin self.entry.stop))) self.entry.place self.entry.begin self.entry.next result }
+        requires { IsUnit self.unit }
+        ensures { Judged (sps_verdict (held_of self.entry.sets) (counted (held_of self.entry.sets)) (read_sps base_level (payload_of self.entry.unit))) self.entry.place self.entry.unit.begin self.entry.next result }
     {
-        let Some(sps) = sets::sps_at(self.take, self.begin, self.stop) else {
+        let Some(sps) = self.unit.read_sps() else {
             return self.refused(Refusal::ParameterSet);
         };
         let counted = self.sets.counted();
@@ -80,7 +79,7 @@ impl Unit<'_> {
             }
         };
         Step {
-            answer: Answer::Sps(self.begin, sps),
+            answer: Answer::Sps(self.unit.begin, sps),
             reader: Reader {
                 place: self.next,
                 sets,
@@ -90,14 +89,14 @@ impl Unit<'_> {
 
     // A unit with the header of a picture parameter set.
     fn pps(self) -> Step
-        requires { UnitAt self.take.now self.begin self.stop }
-        ensures { Judged (pps_verdict (held_of self.entry.sets) (counted (held_of self.entry.sets)) (payload_at self.entry.take.now self.entry.begin self.entry.stop)) self.entry.place self.entry.begin self.entry.next result }
+        requires { IsUnit self.unit }
+        ensures { Judged (pps_verdict (held_of self.entry.sets) (counted (held_of self.entry.sets)) (payload_of self.entry.unit)) self.entry.place self.entry.unit.begin self.entry.next result }
     {
-        if !sets::pps_at(self.take, self.begin, self.stop) {
+        if !self.unit.is_pps() {
             return self.refused(Refusal::ParameterSet);
         }
         Step {
-            answer: Answer::Pps(self.begin),
+            answer: Answer::Pps(self.unit.begin),
             reader: Reader {
                 place: self.next,
                 sets: HeldSets {
@@ -111,20 +110,20 @@ impl Unit<'_> {
     // What 18 looks at in a payload that is not shorter than a picture's of the size and kind q: n is its length, m the picture's, and no inserted byte stands
     // in the unit from the place `calm` on.
     fn is_formless(self, calm: usize, q: Session, n: usize, m: usize) -> bool
-        requires unit_at { UnitAt self.take.now self.begin self.stop }
+        requires unit_at { IsUnit self.unit }
         requires q_value { accepted (sequence_of q) ≡ true }
-        requires n_value { (n ≡ length (payload_at self.take.now self.begin self.stop)) × (m ≡ picture_length (sequence_of q)) × (m ≤ n) }
-        requires stop_value { ins_count self.take.now calm self.stop ≡ 0 }
-        ensures { result ≡ formless (sequence_of q) (payload_at self.entry.take.now self.entry.begin self.entry.stop) }
+        requires n_value { (n ≡ length (payload_of self.unit)) × (m ≡ picture_length (sequence_of q)) × (m ≤ n) }
+        requires stop_value { ins_count self.unit.take.now calm self.unit.end ≡ 0 }
+        ensures { result ≡ formless (sequence_of q) (payload_of self.entry.unit) }
     {
-        m < n || !heads::right(self.take, self.begin, self.stop, calm, q)
+        m < n || !self.unit.is_right(calm, q)
     }
 
     // A unit with the header of a picture, in which no inserted byte stands from the place `calm` on.
     fn picture(self, calm: usize, y: &mut [u8], cb: &mut [u8], cr: &mut [u8]) -> Step
-        requires unit_at { UnitAt self.take.now self.begin self.stop }
-        requires stop_value { ins_count self.take.now calm self.stop ≡ 0 }
-        ensures { Shown (held_verdict (rooms y.old cb.old cr.old) (held_of self.entry.sets) (counted (held_of self.entry.sets)) (payload_at self.entry.take.now self.entry.begin self.entry.stop)) self.entry.place self.entry.begin self.entry.next result y.old y.new cb.old cb.new cr.old cr.new }
+        requires unit_at { IsUnit self.unit }
+        requires stop_value { ins_count self.unit.take.now calm self.unit.end ≡ 0 }
+        ensures { Shown (held_verdict (rooms y.old cb.old cr.old) (held_of self.entry.sets) (counted (held_of self.entry.sets)) (payload_of self.entry.unit)) self.entry.place self.entry.unit.begin self.entry.next result y.old y.new cb.old cb.new cr.old cr.new }
     {
         let held = self.sets.counted();
         let Some(q) = held.sps else {
@@ -133,7 +132,7 @@ impl Unit<'_> {
         if !held.pps {
             return self.refused(Refusal::NothingHeld);
         }
-        let n = taking::payload_len_to(self.take, self.begin, self.stop, calm);
+        let n = taking::payload_len_to(self.unit.take, self.unit.begin, self.unit.end, calm);
         let m = slice::payload_len(q);
         if n < m {
             return self.refused(Refusal::PictureShort);
@@ -143,16 +142,16 @@ impl Unit<'_> {
         }
         if is_short(q, y, cb, cr) {
             return Step {
-                answer: Answer::Refused(Refusal::Planes, self.begin),
+                answer: Answer::Refused(Refusal::Planes, self.unit.begin),
                 reader: Reader {
                     place: self.place,
                     sets: self.sets,
                 },
             };
         }
-        samples::samples(self.take, self.begin, self.stop, calm, q, y, cb, cr);
+        self.unit.take_samples(calm, q, y, cb, cr);
         Step {
-            answer: Answer::Picture(self.begin),
+            answer: Answer::Picture(self.unit.begin),
             reader: Reader {
                 place: self.next,
                 sets: self.sets,
@@ -182,25 +181,28 @@ pub fn read_unit(
     requires { (1 ≤ begin) × (begin ≤ length take.now) }
     ensures { Shown (judge (rooms y.old cb.old cr.old) (held_of sets) (unit_of (drop begin take.now))) place begin (begin + next (drop begin take.now)) result y.old y.new cb.old cb.new cr.old cr.new }
 {
-    let found = scan::unit_scan(take, begin);
-    let unit = Unit {
+    let scanned = scan::unit_scan(take, begin);
+    let unit = NalUnit {
         take,
+        begin,
+        end: scanned.stop,
+    };
+    let found = Found {
+        unit,
         place,
         sets,
-        begin,
-        stop: found.stop,
-        next: found.end,
+        next: scanned.end,
     };
-    if found.stop <= begin {
-        return unit.refused(Refusal::Empty);
+    if scanned.stop <= begin {
+        return found.refused(Refusal::Empty);
     }
-    let Some(calm) = found.calm else {
-        return unit.refused(Refusal::Escaping);
+    let Some(calm) = scanned.calm else {
+        return found.refused(Refusal::Escaping);
     };
     match take[begin] {
-        0x67 => unit.sps(),
-        0x68 => unit.pps(),
-        0x25 => unit.picture(calm, y, cb, cr),
-        _ => unit.refused(Refusal::Header),
+        0x67 => found.sps(),
+        0x68 => found.pps(),
+        0x25 => found.picture(calm, y, cb, cr),
+        _ => found.refused(Refusal::Header),
     }
 }

@@ -6,6 +6,7 @@ pub mod heads;
 pub mod judge;
 pub mod samples;
 pub mod sets;
+pub mod unit;
 
 ghost use Rattle.std.specs.Prelude.{◌≡◌};
 ghost use Rattle.reader.specs.Refusals.{number};

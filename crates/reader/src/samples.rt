@@ -2,36 +2,35 @@
 // each plane, so that a plane is written from its first byte to its last; so is one all samples of which are zero; another macroblock by macroblock.
 ghost use Rattle.std.specs.Prelude.{◌≡◌, true, ℕ, ◌+◌, ◌*◌, ◌≤◌, ◌<◌, eqb, length, IfSome};
 ghost use Rattle.nal_unit.specs.Kept.{ins_count};
-ghost use Rattle.nal_unit.specs.Taking.{Stands};
 ghost use Rattle.ycbcr_image.specs.Form.{planes, block_bytes, mb_bytes};
 ghost use Rattle.ycbcr_image.specs.Sizes.{sequence_of, pic_width_in_mbs, frame_height_in_mbs, tight_length};
 ghost use Rattle.ycbcr_image.specs.Accepted.{Fine};
 ghost use Rattle.slice.specs.Cat.{cat};
 ghost use Rattle.slice.specs.Laid.{Laid};
 ghost use Rattle.slice.specs.Picture.{picture_length, off_in};
-ghost use Rattle.reader.specs.Heads.{UnitAt, payload_at};
+ghost use Rattle.reader.specs.Units.{IsUnit, payload_of, StandsIn};
 ghost use Rattle.reader.specs.Bands.{pieces, lines_of, Pieced, Banded};
-ghost use Rattle.reader.specs.Samples.{fine_props, RowsTook, BlockTook, head_place, block_place, Rooms, MbsTook, Steps, RowStands, DarkRow, IsDark, PlanesTook};
+ghost use Rattle.reader.specs.Samples.{fine_props, RowsTook, BlockTook, head_place, block_place, Rooms, RowStands, DarkRow, PlanesTook};
 
+use crate::unit::NalUnit;
 use nal_unit::{rows, taking};
 use slice::macroblock;
 use ycbcr_image::Session;
 
-// A unit that holds a picture of the size and kind q, with a payload of the exact length: its header byte stands at the place o, it ends at e, and no inserted
-// byte stands in it from the place c on.
+// A unit that holds a picture of the size and kind q, with a payload of the exact length; no inserted byte stands in it from the place `calm` on.
 #[derive(Clone, Copy)]
 struct Coded<'a> {
-    s: &'a [u8],
-    o: usize,
-    e: usize,
-    c: usize,
+    unit: NalUnit<'a>,
+    calm: usize,
     q: Session,
     ghost fine: { Fine (sequence_of q) } by { Prim.hlevel fine_props },
-    ghost exact: { length (payload_at s.now o e) ≡ picture_length (sequence_of q) },
-    ghost calm: { ins_count s.now c e ≡ 0 },
+    ghost exact: { length (payload_of unit) ≡ picture_length (sequence_of q) },
+    ghost calm_at: { ins_count unit.take.now calm unit.end ≡ 0 },
 }
 
 impl Coded<'_> {
+    ghost use Rattle.reader.specs.Rows.{Took};
+
     // Takes h rows of bw bytes, which stand in the payload from its byte n on, at the place p of the unit: of each the first w bytes, into the output from the
     // place `at` on, `step` bytes from row to row. Answers the place behind them.
     fn take_rows(
@@ -45,16 +44,16 @@ impl Coded<'_> {
         at: usize,
     ) -> usize
         ghost n: { ℕ }
-        requires stands { Stands self.s.now self.e (payload_at self.s.now self.o self.e) n p }
-        requires w_le_bw { (w ≤ bw) × (n + h * bw ≤ length (payload_at self.s.now self.o self.e)) }
+        requires stands { StandsIn self.unit n p }
+        requires w_le_bw { (w ≤ bw) × (n + h * bw ≤ length (payload_of self.unit)) }
         requires w_in_bounds { (at + h * step + w ≤ length out.old + step) × (h * step ≤ length out.old) }
-        ensures { RowsTook self.entry.s.now self.entry.o self.entry.e n out.old at w bw step h out.new result }
+        ensures { RowsTook self.entry.unit.take.now self.entry.unit.begin self.entry.unit.end n out.old at w bw step h out.new result }
     {
         let mut p = p;
         let mut a = at;
         for _y in 0..h {
-            p = taking::take_row(self.s, p, self.e, w, out, a);
-            p = taking::skip(self.s, p, self.e, bw - w);
+            p = taking::take_row(self.unit.take, p, self.unit.end, w, out, a);
+            p = taking::skip(self.unit.take, p, self.unit.end, bw - w);
             a += step;
         }
         p
@@ -62,11 +61,11 @@ impl Coded<'_> {
 
     // Takes what is visible of plane k's block in macroblock row my and column mx, which stands at the place p. Answers the place behind it.
     fn take_block(self, p: usize, k: u32, my: usize, mx: usize, out: &mut [u8]) -> usize
-        requires stands { Stands self.s.now self.e (payload_at self.s.now self.o self.e) (block_place (sequence_of self.q) (my * pic_width_in_mbs (sequence_of self.q) + mx) k) p }
+        requires stands { StandsIn self.unit (block_place (sequence_of self.q) (my * pic_width_in_mbs (sequence_of self.q) + mx) k) p }
         requires k_bound { (k < 3) × (k < planes (sequence_of self.q).form) }
         requires my_bound { (my < frame_height_in_mbs (sequence_of self.q)) × (mx < pic_width_in_mbs (sequence_of self.q)) }
         requires k_in_bounds { tight_length (sequence_of self.q) k ≤ length out.old }
-        ensures { BlockTook self.entry.s.now self.entry.o self.entry.e (block_place (sequence_of self.entry.q) (my * pic_width_in_mbs (sequence_of self.entry.q) + mx) k) (sequence_of self.entry.q) k my mx out.old out.new result }
+        ensures { BlockTook self.entry.unit.take.now self.entry.unit.begin self.entry.unit.end (block_place (sequence_of self.entry.q) (my * pic_width_in_mbs (sequence_of self.entry.q) + mx) k) (sequence_of self.entry.q) k my mx out.old out.new result }
     {
         let bw = self.q.block_row_bytes(k);
         let bh = self.q.mb_height(k);
@@ -75,7 +74,7 @@ impl Coded<'_> {
         let w = bw.min(vb - mx * bw);
         let h = bh.min(vh - my * bh);
         let r = self.take_rows(p, w, bw, vb, h, out, my * bh * vb + mx * bw);
-        taking::skip(self.s, r, self.e, (bh - h) * bw)
+        taking::skip(self.unit.take, r, self.unit.end, (bh - h) * bw)
     }
 
     // Takes the visible samples of the macroblock in row my and column mx into the planes of its kind; what stands before its samples begins at the place p.
@@ -89,12 +88,12 @@ impl Coded<'_> {
         cb: &mut [u8],
         cr: &mut [u8],
     ) -> usize
-        requires stands { Stands self.s.now self.e (payload_at self.s.now self.o self.e) (head_place (sequence_of self.q) (my * pic_width_in_mbs (sequence_of self.q) + mx)) p }
+        requires stands { StandsIn self.unit (head_place (sequence_of self.q) (my * pic_width_in_mbs (sequence_of self.q) + mx)) p }
         requires my_bound { (my < frame_height_in_mbs (sequence_of self.q)) × (mx < pic_width_in_mbs (sequence_of self.q)) }
         requires rooms { Rooms (sequence_of self.q) y.old cb.old cr.old }
-        ensures { MbsTook self.entry.s.now self.entry.o self.entry.e (sequence_of self.entry.q) (my * pic_width_in_mbs (sequence_of self.entry.q) + mx) (my * pic_width_in_mbs (sequence_of self.entry.q) + mx + 1) y.old y.new cb.old cb.new cr.old cr.new result }
+        ensures { Took self.entry (my * pic_width_in_mbs (sequence_of self.entry.q) + mx) (my * pic_width_in_mbs (sequence_of self.entry.q) + mx + 1) y.old y.new cb.old cb.new cr.old cr.new result }
     {
-        let a = taking::skip(self.s, p, self.e, 2);
+        let a = taking::skip(self.unit.take, p, self.unit.end, 2);
         let b = self.take_block(a, 0, my, mx, y);
         if self.q.is_monochrome() {
             return b;
@@ -150,10 +149,12 @@ struct Row<'a> {
     my: usize,
     p: usize,
     ghost my_bound: { my < frame_height_in_mbs (sequence_of coded.q) },
-    ghost stands: { Stands coded.s.now coded.e (payload_at coded.s.now coded.o coded.e) (head_place (sequence_of coded.q) (my * pic_width_in_mbs (sequence_of coded.q))) p },
+    ghost stands: { StandsIn coded.unit (head_place (sequence_of coded.q) (my * pic_width_in_mbs (sequence_of coded.q))) p },
 }
 
 impl Row<'_> {
+    ghost use Rattle.reader.specs.Rows.{RowTook, BandTook, RowDark};
+
     // The bytes of the row in the payload.
     fn len(self) -> usize
         ensures { result ≡ pic_width_in_mbs (sequence_of self.entry.coded.q) * (2 + mb_bytes (sequence_of self.entry.coded.q).form) }
@@ -164,16 +165,16 @@ impl Row<'_> {
     // Takes the visible samples of the row. Answers the place behind it.
     fn take(self, y: &mut [u8], cb: &mut [u8], cr: &mut [u8]) -> usize
         requires rooms { Rooms (sequence_of self.coded.q) y.old cb.old cr.old }
-        ensures { MbsTook self.entry.coded.s.now self.entry.coded.o self.entry.coded.e (sequence_of self.entry.coded.q) (self.entry.my * pic_width_in_mbs (sequence_of self.entry.coded.q)) (self.entry.my * pic_width_in_mbs (sequence_of self.entry.coded.q) + pic_width_in_mbs (sequence_of self.entry.coded.q)) y.old y.new cb.old cb.new cr.old cr.new result }
+        ensures { RowTook self.entry y.old y.new cb.old cb.new cr.old cr.new result }
     {
-        if self.coded.c <= self.p {
+        if self.coded.calm <= self.p {
             return self.take_calm(y, cb, cr);
         }
         if let Some(r) = self.dark() {
             self.take_dark(y, cb, cr);
             return r;
         }
-        if taking::calm(self.coded.s, self.p, self.len()) {
+        if taking::calm(self.coded.unit.take, self.p, self.len()) {
             return self.take_calm(y, cb, cr);
         }
         self.take_mbs(y, cb, cr)
@@ -182,7 +183,7 @@ impl Row<'_> {
     // The same, macroblock by macroblock.
     fn take_mbs(self, y: &mut [u8], cb: &mut [u8], cr: &mut [u8]) -> usize
         requires rooms { Rooms (sequence_of self.coded.q) y.old cb.old cr.old }
-        ensures { MbsTook self.entry.coded.s.now self.entry.coded.o self.entry.coded.e (sequence_of self.entry.coded.q) (self.entry.my * pic_width_in_mbs (sequence_of self.entry.coded.q)) (self.entry.my * pic_width_in_mbs (sequence_of self.entry.coded.q) + pic_width_in_mbs (sequence_of self.entry.coded.q)) y.old y.new cb.old cb.new cr.old cr.new result }
+        ensures { RowTook self.entry y.old y.new cb.old cb.new cr.old cr.new result }
     {
         let mut p = self.p;
         for mx in 0..self.coded.q.mbs_width() {
@@ -194,8 +195,8 @@ impl Row<'_> {
     // The same where none of the row's bytes is an inserted one, line by line.
     fn take_calm(self, y: &mut [u8], cb: &mut [u8], cr: &mut [u8]) -> usize
         requires rooms { Rooms (sequence_of self.coded.q) y.old cb.old cr.old }
-        requires q_value { eqb (ins_count self.coded.s.now self.p (self.p + pic_width_in_mbs (sequence_of self.coded.q) * (2 + mb_bytes (sequence_of self.coded.q).form))) 0 ≡ true }
-        ensures { MbsTook self.entry.coded.s.now self.entry.coded.o self.entry.coded.e (sequence_of self.entry.coded.q) (self.entry.my * pic_width_in_mbs (sequence_of self.entry.coded.q)) (self.entry.my * pic_width_in_mbs (sequence_of self.entry.coded.q) + pic_width_in_mbs (sequence_of self.entry.coded.q)) y.old y.new cb.old cb.new cr.old cr.new result }
+        requires q_value { eqb (ins_count self.coded.unit.take.now self.p (self.p + pic_width_in_mbs (sequence_of self.coded.q) * (2 + mb_bytes (sequence_of self.coded.q).form))) 0 ≡ true }
+        ensures { RowTook self.entry y.old y.new cb.old cb.new cr.old cr.new result }
     {
         let q = self.coded.q;
         let luma = q.mb_height(0) * q.block_row_bytes(0);
@@ -210,11 +211,11 @@ impl Row<'_> {
 
     // Takes what is visible of plane k in the row, which stands in the unit as it does in the payload; `off` bytes of a macroblock stand before the plane's block.
     fn take_band(self, k: u32, off: usize, out: &mut [u8])
-        requires row_stands { RowStands self.coded.s.now (payload_at self.coded.s.now self.coded.o self.coded.e) (sequence_of self.coded.q) (self.my * pic_width_in_mbs (sequence_of self.coded.q)) self.p }
+        requires row_stands { RowStands self.coded.unit.take.now (payload_of self.coded.unit) (sequence_of self.coded.q) (self.my * pic_width_in_mbs (sequence_of self.coded.q)) self.p }
         requires k_bound { (k < 3) × (k < planes (sequence_of self.coded.q).form) }
         requires off_value { off ≡ off_in (sequence_of self.coded.q).form k }
         requires k_in_bounds { tight_length (sequence_of self.coded.q) k ≤ length out.old }
-        ensures { Steps (sequence_of self.entry.coded.q) k (payload_at self.entry.coded.s.now self.entry.coded.o self.entry.coded.e) (self.entry.my * pic_width_in_mbs (sequence_of self.entry.coded.q)) (self.entry.my * pic_width_in_mbs (sequence_of self.entry.coded.q) + pic_width_in_mbs (sequence_of self.entry.coded.q)) out.old out.new }
+        ensures { BandTook self.entry k out.old out.new }
     {
         let q = self.coded.q;
         let size = q.mb_bytes();
@@ -224,7 +225,7 @@ impl Row<'_> {
         let vh = q.visible_rows(k);
         let h = bh.min(vh - self.my * bh);
         let pieces = Pieces {
-            s: self.coded.s,
+            s: self.coded.unit.take,
             unit: 2 + size,
             bw,
             full: vb / bw,
@@ -235,25 +236,25 @@ impl Row<'_> {
 
     // The place behind the row where all its samples are found to be zero, None where they are not.
     fn dark(self) -> Option<usize>
-        ensures { IfSome result (λ r. DarkRow self.entry.coded.s.now self.entry.coded.e (payload_at self.entry.coded.s.now self.entry.coded.o self.entry.coded.e) (mb_bytes (sequence_of self.entry.coded.q).form) (head_place (sequence_of self.entry.coded.q) (self.entry.my * pic_width_in_mbs (sequence_of self.entry.coded.q))) (pic_width_in_mbs (sequence_of self.entry.coded.q)) r) }
+        ensures { IfSome result (λ r. DarkRow self.entry.coded.unit.take.now self.entry.coded.unit.end (payload_of self.entry.coded.unit) (mb_bytes (sequence_of self.entry.coded.q).form) (head_place (sequence_of self.entry.coded.q) (self.entry.my * pic_width_in_mbs (sequence_of self.entry.coded.q))) (pic_width_in_mbs (sequence_of self.entry.coded.q)) r) }
     {
-        let Coded { s, e, c, q, .. } = self.coded;
+        let Coded { unit, calm, q } = self.coded;
         let size = q.mb_bytes();
         let mut p = self.p;
         for _mx in 0..q.mbs_width() {
-            let b = taking::pass(s, p, e, c, 2);
-            p = taking::zeros(s, b, e, size)?;
+            let b = taking::pass(unit.take, p, unit.end, calm, 2);
+            p = taking::zeros(unit.take, b, unit.end, size)?;
         }
         Some(p)
     }
 
     // Takes the visible samples of such a row.
     fn take_dark(self, y: &mut [u8], cb: &mut [u8], cr: &mut [u8])
-        requires dark { IsDark (payload_at self.coded.s.now self.coded.o self.coded.e) (sequence_of self.coded.q) (self.my * pic_width_in_mbs (sequence_of self.coded.q)) }
+        requires dark { RowDark self }
         requires rooms { Rooms (sequence_of self.coded.q) y.old cb.old cr.old }
-        ensures in_y { Steps (sequence_of self.entry.coded.q) 0 (payload_at self.entry.coded.s.now self.entry.coded.o self.entry.coded.e) (self.entry.my * pic_width_in_mbs (sequence_of self.entry.coded.q)) (self.entry.my * pic_width_in_mbs (sequence_of self.entry.coded.q) + pic_width_in_mbs (sequence_of self.entry.coded.q)) y.old y.new }
-        ensures in_cb { Steps (sequence_of self.entry.coded.q) 1 (payload_at self.entry.coded.s.now self.entry.coded.o self.entry.coded.e) (self.entry.my * pic_width_in_mbs (sequence_of self.entry.coded.q)) (self.entry.my * pic_width_in_mbs (sequence_of self.entry.coded.q) + pic_width_in_mbs (sequence_of self.entry.coded.q)) cb.old cb.new }
-        ensures in_cr { Steps (sequence_of self.entry.coded.q) 2 (payload_at self.entry.coded.s.now self.entry.coded.o self.entry.coded.e) (self.entry.my * pic_width_in_mbs (sequence_of self.entry.coded.q)) (self.entry.my * pic_width_in_mbs (sequence_of self.entry.coded.q) + pic_width_in_mbs (sequence_of self.entry.coded.q)) cr.old cr.new }
+        ensures in_y { BandTook self.entry 0 y.old y.new }
+        ensures in_cb { BandTook self.entry 1 cb.old cb.new }
+        ensures in_cr { BandTook self.entry 2 cr.old cr.new }
     {
         self.zero_band(0, y);
         if self.coded.q.is_monochrome() {
@@ -265,10 +266,10 @@ impl Row<'_> {
 
     // Writes what is visible of plane k in such a row.
     fn zero_band(self, k: u32, out: &mut [u8])
-        requires dark { IsDark (payload_at self.coded.s.now self.coded.o self.coded.e) (sequence_of self.coded.q) (self.my * pic_width_in_mbs (sequence_of self.coded.q)) }
+        requires dark { RowDark self }
         requires k_bound { (k < 3) × (k < planes (sequence_of self.coded.q).form) }
         requires k_in_bounds { tight_length (sequence_of self.coded.q) k ≤ length out.old }
-        ensures { Steps (sequence_of self.entry.coded.q) k (payload_at self.entry.coded.s.now self.entry.coded.o self.entry.coded.e) (self.entry.my * pic_width_in_mbs (sequence_of self.entry.coded.q)) (self.entry.my * pic_width_in_mbs (sequence_of self.entry.coded.q) + pic_width_in_mbs (sequence_of self.entry.coded.q)) out.old out.new }
+        ensures { BandTook self.entry k out.old out.new }
     {
         let q = self.coded.q;
         let bh = q.mb_height(k);
@@ -279,27 +280,24 @@ impl Row<'_> {
     }
 }
 
-// Takes all visible samples of a picture, whose payload has the exact length, into the planes of its kind, stored tight. The picture's unit begins with its
-// header byte at the place o and ends at e, and no inserted byte stands in it from the place c on.
-pub fn samples(
-    s: &[u8],
-    o: usize,
-    e: usize,
-    c: usize,
-    q: Session,
-    y: &mut [u8],
-    cb: &mut [u8],
-    cr: &mut [u8],
-)
-    requires unit_at { UnitAt s.now o e }
-    requires fine { (Fine (sequence_of q)) × (length (payload_at s.now o e) ≡ picture_length (sequence_of q)) }
-    requires rooms { Rooms (sequence_of q) y.old cb.old cr.old }
-    requires e_value { ins_count s.now c e ≡ 0 }
-    ensures { PlanesTook (sequence_of q) (payload_at s.now o e) y.old y.new cb.old cb.new cr.old cr.new }
-{
-    let coded = Coded { s, o, e, c, q };
-    let mut p = taking::skip(s, o + 1, e, 2);
-    for my in 0..q.mbs_height() {
-        p = Row { coded, my, p }.take(y, cb, cr);
+impl NalUnit<'_> {
+    // Takes all visible samples of a picture of the size and kind q, whose payload has the exact length, into the planes of its kind, stored tight. No inserted
+    // byte stands in the unit from the place `calm` on.
+    pub fn take_samples(self, calm: usize, q: Session, y: &mut [u8], cb: &mut [u8], cr: &mut [u8])
+        requires unit_at { IsUnit self }
+        requires fine { (Fine (sequence_of q)) × (length (payload_of self) ≡ picture_length (sequence_of q)) }
+        requires rooms { Rooms (sequence_of q) y.old cb.old cr.old }
+        requires e_value { ins_count self.take.now calm self.end ≡ 0 }
+        ensures { PlanesTook (sequence_of q) (payload_of self.entry) y.old y.new cb.old cb.new cr.old cr.new }
+    {
+        let coded = Coded {
+            unit: self,
+            calm,
+            q,
+        };
+        let mut p = taking::skip(self.take, self.begin + 1, self.end, 2);
+        for my in 0..q.mbs_height() {
+            p = Row { coded, my, p }.take(y, cb, cr);
+        }
     }
 }

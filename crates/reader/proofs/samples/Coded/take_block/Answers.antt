@@ -15,11 +15,11 @@ by c =
     c.block_row_bytes-bw.ensures c.mb_height-bh.ensures c.visible_row_bytes-vb.ensures c.visible_rows-vh.ensures
 
 -- where the block stands in the payload
-byte : (c : After-visible_rows-vh) → let a = c.args in let X = payload_at a.self.s.now a.self.o a.self.e in
-    length X - length (kept a.self.s.now a.p a.self.e) ≡ block_place (sequence_of a.self.q) (a.my * pic_width_in_mbs (sequence_of a.self.q) + a.mx) a.k
+byte : (c : After-visible_rows-vh) → let a = c.args in let X = payload_at a.self.unit.take.now a.self.unit.begin a.self.unit.end in
+    length X - length (kept a.self.unit.take.now a.p a.self.unit.end) ≡ block_place (sequence_of a.self.q) (a.my * pic_width_in_mbs (sequence_of a.self.q) + a.mx) a.k
 byte c =
     let a = c.args in
-    place_byte c.requires.stands (omega (arith, block-there (payload_at a.self.s.now a.self.o a.self.e) a.self.fine a.self.exact a.k a.my a.mx c.requires.k_bound.0 c.requires.my_bound.0 c.requires.my_bound.1))
+    place_byte c.requires.stands (omega (arith, block-there (payload_at a.self.unit.take.now a.self.unit.begin a.self.unit.end) a.self.fine a.self.exact a.k a.my a.mx c.requires.k_bound.0 c.requires.my_bound.0 c.requires.my_bound.1))
 
 pub overflow_sub-vb : goal.overflow_sub-vb
 overflow_sub-vb c = omega (arith, (by (goal.at.overflow_sub-vb c).After-visible_rows-vh).across)
@@ -43,7 +43,7 @@ pub take_rows-r-requires : goal.take_rows-r-requires
 take_rows-r-requires c =
     let p = (goal.at.take_rows-r-requires c).After-visible_rows-vh in
     let a = c.args in
-    let X = payload_at a.self.s.now a.self.o a.self.e in
+    let X = payload_at a.self.unit.take.now a.self.unit.begin a.self.unit.end in
     let there = block-there X a.self.fine a.self.exact a.k a.my a.mx c.requires.k_bound.0 c.requires.my_bound.0 c.requires.my_bound.1 in
     let t = taking _ _ (block_place (sequence_of a.self.q) (a.my * pic_width_in_mbs (sequence_of a.self.q) + a.mx) a.k) (length X) (length a.out.now) (by p) c.min-w.ensures c.min-h.ensures there c.requires.k_in_bounds in
     (stands_as (sym (byte p)) c.requires.stands, ((t.narrow, omega (arith, t.there, byte p)), (t.room, t.rows)))
@@ -55,7 +55,7 @@ pub skip-requires-clause-n_in_bounds : goal.skip-requires-clause-n_in_bounds
 skip-requires-clause-n_in_bounds c =
     let p = (goal.at.skip-requires-clause-n_in_bounds c).After-visible_rows-vh in
     let a = c.args in
-    let there = block-there (payload_at a.self.s.now a.self.o a.self.e) a.self.fine a.self.exact a.k a.my a.mx c.requires.k_bound.0 c.requires.my_bound.0 c.requires.my_bound.1 in
+    let there = block-there (payload_at a.self.unit.take.now a.self.unit.begin a.self.unit.end) a.self.fine a.self.exact a.k a.my a.mx c.requires.k_bound.0 c.requires.my_bound.0 c.requires.my_bound.1 in
     rest_there (by p) c.min-h.ensures there (rows-took_as (byte p) c.take_rows-r.ensures)
 
 pub returns : goal.returns

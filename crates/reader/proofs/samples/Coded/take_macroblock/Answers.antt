@@ -10,7 +10,7 @@ use Rattle.reader.proofs.samples.Coded.take_macroblock.Goals as goal
 pub skip-a-requires-clause-n_in_bounds : goal.skip-a-requires-clause-n_in_bounds
 skip-a-requires-clause-n_in_bounds c =
     let a = c.args in
-    stands_room 2 c.requires.stands (omega (arith, mb_there (payload_at a.self.s.now a.self.o a.self.e) a.self.fine a.self.exact a.my a.mx c.requires.my_bound.0 c.requires.my_bound.1))
+    stands_room 2 c.requires.stands (omega (arith, mb_there (payload_at a.self.unit.take.now a.self.unit.begin a.self.unit.end) a.self.fine a.self.exact a.my a.mx c.requires.my_bound.0 c.requires.my_bound.1))
 
 pub take_block-b-requires-clause-stands : goal.take_block-b-requires-clause-stands
 take_block-b-requires-clause-stands c =

@@ -10,10 +10,10 @@ use Rattle.reader.proofs.samples.Row.dark.Goals.{In-loop-mx}
 
 -- the payload has the row
 long : (c : In-loop-mx) → let a = c.args.self in
-    head_place (sequence_of a.coded.q) (a.my * pic_width_in_mbs (sequence_of a.coded.q)) + c.mbs_width-mx-end.result * (2 + c.mb_bytes-size.result) ≤ length (payload_at a.coded.s.now a.coded.o a.coded.e)
+    head_place (sequence_of a.coded.q) (a.my * pic_width_in_mbs (sequence_of a.coded.q)) + c.mbs_width-mx-end.result * (2 + c.mb_bytes-size.result) ≤ length (payload_at a.coded.unit.take.now a.coded.unit.begin a.coded.unit.end)
 long c =
     let a = c.args.self in
-    row-long (payload_at a.coded.s.now a.coded.o a.coded.e) a.coded.fine a.coded.exact a.my a.my_bound refl c.mbs_width-mx-end.ensures c.mb_bytes-size.ensures
+    row-long (payload_at a.coded.unit.take.now a.coded.unit.begin a.coded.unit.end) a.coded.fine a.coded.exact a.my a.my_bound refl c.mbs_width-mx-end.ensures c.mb_bytes-size.ensures
 
 pub pass-b-requires-clause-n_in_bounds : goal.pass-b-requires-clause-n_in_bounds
 pass-b-requires-clause-n_in_bounds c = dark_head c.loop-mx.invariant c.loop-mx-test.true (long (goal.at.pass-b-requires-clause-n_in_bounds c).In-loop-mx)
@@ -26,5 +26,5 @@ pub loop-mx-preserved : goal.loop-mx-preserved
 loop-mx-preserved c =
     let a = c.args.self.coded in
     let t = stands-pass c.loop-mx.invariant.at c.pass-b.ensures in
-    let f : Some c.in_ok-p.p ≡ behind_zeros a.s.now c.pass-b.result a.e c.mb_bytes-size.result = sym c.in_ok-p.was ∙ c.zeros.ensures in
-    dark_turn c.loop-mx.invariant c.pass-b.ensures (zeros-behind a.s.now c.pass-b.result a.e c.mb_bytes-size.result c.in_ok-p.p f) (zeros-are a.s.now c.pass-b.result a.e c.mb_bytes-size.result c.in_ok-p.p t.low t.high t.inside f)
+    let f : Some c.in_ok-p.p ≡ behind_zeros a.unit.take.now c.pass-b.result a.unit.end c.mb_bytes-size.result = sym c.in_ok-p.was ∙ c.zeros.ensures in
+    dark_turn c.loop-mx.invariant c.pass-b.ensures (zeros-behind a.unit.take.now c.pass-b.result a.unit.end c.mb_bytes-size.result c.in_ok-p.p f) (zeros-are a.unit.take.now c.pass-b.result a.unit.end c.mb_bytes-size.result c.in_ok-p.p t.low t.high t.inside f)

@@ -8,13 +8,13 @@ use Rattle.reader.proofs.samples.Row.take.Goals as goal
 use Rattle.reader.proofs.samples.Row.take.Goals.{Start}
 
 -- the row is there
-there : (c : Start) → let a = c.args.self in let q = sequence_of a.coded.q in a.p + pic_width_in_mbs q * (2 + mb_bytes q.form) ≤ a.coded.e
+there : (c : Start) → let a = c.args.self in let q = sequence_of a.coded.q in a.p + pic_width_in_mbs q * (2 + mb_bytes q.form) ≤ a.coded.unit.end
 there c = let a = c.args.self in row_there a.coded.fine a.coded.exact a.my a.my_bound refl a.stands
 
 pub take_calm-requires-clause-q_value : goal.take_calm-requires-clause-q_value
 take_calm-requires-clause-q_value c =
     let a = c.args.self in
-    calm_behind a.coded.s.now a.coded.c a.p a.coded.e _ (omega (arith, a.stands.low)) c.if-self.true (there (goal.at.take_calm-requires-clause-q_value c).Start) a.stands.inside a.coded.calm
+    calm_behind a.coded.unit.take.now a.coded.calm a.p a.coded.unit.end _ (omega (arith, a.stands.low)) c.if-self.true (there (goal.at.take_calm-requires-clause-q_value c).Start) a.stands.inside a.coded.calm_at
 
 pub returns-in-Some : goal.returns-in-Some
 returns-in-Some c =

@@ -18,6 +18,12 @@ some c = omega (arith, (by c).row, (c.args.self.coded.fine.present c.args.k c.re
 pub overflow_sub-vh : goal.overflow_sub-vh
 overflow_sub-vh c = omega (arith, (by (goal.at.overflow_sub-vh c).After-visible_rows-vh).down)
 
+pub overflow_add-self-2 : goal.overflow_add-self-2
+overflow_add-self-2 c =
+    let p = (goal.at.overflow_add-self-2 c).After-visible_rows-vh in
+    let g = band_room c.args.self.coded.fine c.requires.k_bound.0 c.requires.k_bound.1 (by p) c.requires.row_stands c.min-h.ensures c.mb_bytes-size.ensures c.requires.off_value in
+    omega (arith, g.last, g.few)
+
 pub overflow_mul-self-3 : goal.overflow_mul-self-3
 overflow_mul-self-3 c =
     let g = by (goal.at.overflow_mul-self-3 c).After-visible_rows-vh in

@@ -11,8 +11,8 @@ use Rattle.reader.proofs.samples.Row.take_calm.Goals.{Start, After-block_row_byt
 
 -- the row of macroblocks and the place behind it
 stood : (c : Start) → let a = c.args.self in let q = sequence_of a.coded.q in
-    RowStands a.coded.s.now (payload_at a.coded.s.now a.coded.o a.coded.e) q (a.my * pic_width_in_mbs q) a.p
-    × Stands a.coded.s.now a.coded.e (payload_at a.coded.s.now a.coded.o a.coded.e) (head_place q (a.my * pic_width_in_mbs q + pic_width_in_mbs q)) (a.p + pic_width_in_mbs q * (2 + mb_bytes q.form))
+    RowStands a.coded.unit.take.now (payload_at a.coded.unit.take.now a.coded.unit.begin a.coded.unit.end) q (a.my * pic_width_in_mbs q) a.p
+    × Stands a.coded.unit.take.now a.coded.unit.end (payload_at a.coded.unit.take.now a.coded.unit.begin a.coded.unit.end) (head_place q (a.my * pic_width_in_mbs q + pic_width_in_mbs q)) (a.p + pic_width_in_mbs q * (2 + mb_bytes q.form))
 stood c =
     let a = c.args.self in
     row-stands (a.my * pic_width_in_mbs (sequence_of a.coded.q)) a.stands refl (row_there a.coded.fine a.coded.exact a.my a.my_bound refl a.stands) c.requires.q_value

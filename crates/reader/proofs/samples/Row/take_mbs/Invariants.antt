@@ -4,4 +4,4 @@ use Rattle.reader.specs.Samples.{MbsTaking}
 use Rattle.reader.proofs.samples.Row.take_mbs.Given as goal
 
 abbrev pub invariant-loop-mx : goal.invariant-loop-mx
-invariant-loop-mx l = MbsTaking l.self.coded.s.now l.self.coded.o l.self.coded.e (sequence_of l.self.coded.q) (l.self.my * pic_width_in_mbs (sequence_of l.self.coded.q)) (l.self.my * pic_width_in_mbs (sequence_of l.self.coded.q) + l.mx) l.initial.y l.y l.initial.cb l.cb l.initial.cr l.cr l.p
+invariant-loop-mx l = MbsTaking l.self.coded.unit.take.now l.self.coded.unit.begin l.self.coded.unit.end (sequence_of l.self.coded.q) (l.self.my * pic_width_in_mbs (sequence_of l.self.coded.q)) (l.self.my * pic_width_in_mbs (sequence_of l.self.coded.q) + l.mx) l.initial.y l.y l.initial.cb l.cb l.initial.cr l.cr l.p

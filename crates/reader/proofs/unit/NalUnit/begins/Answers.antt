@@ -1,6 +1,6 @@
--- `reader::heads::bytes_at` meets its contract. The loop's invariant: the bytes that are there. Assumes nothing.
+-- `reader::unit::NalUnit::begins` meets its contract. The loop's invariant: the bytes that are there. Assumes nothing.
 use Rattle.reader.specs.Heads.{beginning_some, beginning_not, beginning_turn, beginning_end}
-use Rattle.reader.proofs.heads.bytes_at.Goals as goal
+use Rattle.reader.proofs.unit.NalUnit.begins.Goals as goal
 
 pub returns-then-byte_at-b : goal.returns-then-byte_at-b
 returns-then-byte_at-b c =

@@ -1,0 +1,7 @@
+// A unit of a take: its header byte stands at the place `begin`, and it ends at the place `end`.
+#[derive(Clone, Copy)]
+pub struct NalUnit<'a> {
+    pub take: &'a [u8],
+    pub begin: usize,
+    pub end: usize,
+}
