@@ -2,7 +2,7 @@
 // library with vectors use it.
 #![tactic(auto)]
 
-ghost use Rattle.std.specs.Prelude.{◌≡◌, OnOk, OnErr, Some};
+ghost use Rattle.std.specs.Prelude.{◌≡◌, IsOk, IsTrue, OnOk, OnErr, Some};
 ghost use Rattle.tally.specs.Counting.{added, counted, line, right};
 
 use std::ops::AddAssign;
@@ -34,7 +34,8 @@ impl Tally {
         what: &str,
         right: bool,
     ) -> io::Result<()>
-        ensures { self.new ≡ counted self.old right }
+        ensures counted { self.new ≡ counted self.old right }
+        ensures silent { IsTrue right → IsOk result }
     {
         self.count(right);
         if right {
