@@ -4,6 +4,8 @@
 --     next_first           the next start code is not before the first fault
 --     unit_of s            the unit whose bytes begin at the front of s, less its trailing zeros
 --     unit_bad             that unit has a fault exactly where the first fault of s and two bytes more are in it
+--     next_over, first_over    the next start code and the first fault from a place on, where none stands at the places before another
+--     trim_over, trim_by, blank_by    trailing zeros by the last byte that is not zero; zero bytes by a test of each
 --     Seeking, Sought      the search for the first fault at a place that it has reached, and what it finds; the inserted bytes on its way are seen too
 --     Scanned s from r     the unit at a place of a slice: where the next start code or the end is, where the unit stops, whether it has a fault (no calm place), from where on it is calm
 -- Assumes nothing.

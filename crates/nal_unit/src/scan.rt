@@ -3,7 +3,7 @@
 ghost use Rattle.std.specs.Prelude.{◌≡◌, ℕ, [], ◌∷◌, false, ◌&&◌, ◌+◌, ◌-◌, ◌≤◌, ◌<◌, leb, eqb, length, take, drop, slice_index, IfSome, None};
 ghost use Rattle.nal_unit.specs.StartCode.{code, next};
 ghost use Rattle.nal_unit.specs.Unescape.{fault_here};
-ghost use Rattle.nal_unit.specs.Kept.{Flat};
+ghost use Rattle.nal_unit.specs.Kept.{ins_at, Flat};
 ghost use Rattle.nal_unit.specs.ScanCode.{first_fault, Seeking, Sought, Scanned};
 ghost use Rattle.nal_unit.specs.Walk.{blank, trim};
 
@@ -82,6 +82,14 @@ fn fault_at(s: &[u8], i: usize) -> bool
     fault_bytes(s[i], s[i + 1], s[i + 2], s.get(i + 3).copied().unwrap_or(0))
 }
 
+// Whether two zeros and a byte of 03 or less stand at `i`, as in every fault and around every inserted byte.
+fn low_at(s: &[u8], i: usize) -> bool
+    requires { i + 3 ≤ length s.now }
+    ensures { result ≡ false → (fault_here (drop i s.now) ≡ false) × (ins_at s.now (i + 2) ≡ false) }
+{
+    !calm::plain(s, i + 2)
+}
+
 // Whether a fault begins at one of the 64 places from `i` on.
 fn fault64(s: &[u8], i: usize) -> bool
     requires { i + 67 ≤ length s.now }
@@ -104,7 +112,7 @@ fn seek_plain(s: &[u8], from: usize, mut calm: usize) -> Found
     ensures { Sought s.now from result }
 {
     for i in from..s.len().saturating_sub(2) {
-        if !calm::plain(s, i + 2) {
+        if low_at(s, i) {
             if fault_at(s, i) {
                 return Found { fault: i, calm };
             }
