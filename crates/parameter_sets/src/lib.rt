@@ -39,7 +39,8 @@ struct FrameCropping {
     pub bottom: u32,
 }
 
-// Whether a padded size differs.
+// Whether a padded size differs. That a size is accepted stays a clause, here and below: `sps` is public and asks it so, and a private type round a
+// Session would be made there once and taken apart in each function.
 #[tactic(auto, using(crate::proofs::Sizes::sides), unfolding(crate::specs::Sps::cropped))]
 fn frame_cropping_flag(s: Session) -> bool
     requires { accepted (sequence_of s) ≡ true }
@@ -216,6 +217,8 @@ pub fn is_pps(payload: &[u8]) -> bool
     payload == pps().as_slice()
 }
 
+// Payload and place stay two parameters below: each place is computed, so that a `BitReader` would be made for one reading.
+
 // The number of the code at a place and the place behind it; zeros where no code stands, as the definition `guessed` says: what is read is compared as a whole.
 fn code_at(payload: &[u8], place: usize) -> (u32, usize)
     ensures { (result.0 ≡ number payload.now place) × (result.1 ≡ behind payload.now place) }
@@ -234,12 +237,11 @@ fn flag_at(payload: &[u8], place: usize) -> bool
 // What the profile, and the bit that chroma_format_idc begins with, say of a picture of this size.
 #[tactic(auto, unfolding(crate::specs::Read::form_by))]
 fn form_in(payload: &[u8], width: u32, height: u32) -> Session
-    requires { 1 ≤ length payload.now }
     ensures { sequence_of result ≡ sized width height (form_in payload.now) }
 {
-    let (kind, depth) = match (payload[0], flag_at(payload, 25)) {
-        (66, _) => (Kind::Colour, BitDepth::Depth8),
-        (100, _) => (Kind::Mono, BitDepth::Depth8),
+    let (kind, depth) = match (payload.first(), flag_at(payload, 25)) {
+        (Some(66), _) => (Kind::Colour, BitDepth::Depth8),
+        (Some(100), _) => (Kind::Mono, BitDepth::Depth8),
         (_, true) => (Kind::Mono, BitDepth::Depth12),
         (_, false) => (Kind::Colour, BitDepth::Depth12),
     };
@@ -275,7 +277,6 @@ struct SizeCodes {
 // The sizes' codes in a payload.
 #[tactic(auto, unfolding(crate::specs::Read::sizes_end))]
 fn sizes_in(payload: &[u8]) -> SizeCodes
-    requires { 1 ≤ length payload.now }
     ensures { SizesIn payload.now result }
 {
     let place = width_place(form_in(payload, 0, 0));
@@ -326,7 +327,7 @@ struct Size {
 // The size that the payload's fields say, whatever they are.
 #[tactic(auto, using(crate::proofs::Sizes::sides), unfolding(crate::specs::Read::guessed, crate::specs::Code::cropping_in))]
 fn guess(payload: &[u8]) -> Size
-    requires { (1 ≤ length payload.now) × (length payload.now ≤ 32) }
+    requires { length payload.now ≤ 32 }
     ensures { (result.width ≡ (guessed payload.now).width) × (result.height ≡ (guessed payload.now).height) }
 {
     let form = form_in(payload, 0, 0);
