@@ -7,7 +7,7 @@ ghost use Rattle.ycbcr_image.specs.Sizes.{sequence_of};
 ghost use Rattle.ycbcr_image.specs.Refusals.{accepted};
 ghost use Rattle.ycbcr_image.specs.Accepted.{Fine};
 ghost use Rattle.slice.specs.Laid.{Laid};
-ghost use Rattle.slice.specs.Macroblocks.{lends_in, Ready};
+ghost use Rattle.slice.specs.Macroblocks.{lends_in, Ready, Ready-prop};
 ghost use Rattle.encoder.specs.declared.EncodeError.TheVariants.{Refused};
 ghost use Rattle.encoder.specs.Shot.{lent, plane_of, shot_of, image_of};
 ghost use Rattle.encoder.specs.Answers.{start_of, start_out, next_of, next_out};
@@ -114,16 +114,7 @@ fn put_sets(s: Session, out: &mut [u8]) -> usize
     unit::put_unit(0x68, &pps[..], out, b)
 }
 
-// The length of a picture's unit.
-#[tactic(auto, using(crate::specs::Code::picture_as, crate::specs::Room::picture_few))]
-fn picture_len(planes: Planes, s: Session) -> usize
-    requires { Ready (sequence_of s) (lends_in planes) }
-    ensures { result ≡ length (picture_bytes (sequence_of s) (lends_in planes.entry)) }
-{
-    5 + slice::count::escaped_len(planes, s)
-}
-
-// The most that it can be: an escape has at most half as many bytes again as its payload.
+// The most that a picture's unit can be: an escape has at most half as many bytes again as its payload.
 #[tactic(auto, using(slice::specs::Picture::length_most), unfolding(crate::specs::Room::picture_most))]
 fn picture_most(s: Session) -> usize
     requires { Fine (sequence_of s) }
@@ -145,33 +136,49 @@ pub fn room(s: Session) -> usize
     SETS_MOST + picture_most(s)
 }
 
-// The length that is needed where `before` bytes and a picture's unit are to be written; None where there is room. Where there is room for the most that the
-// unit can be nothing is counted.
-#[tactic(auto, using(crate::specs::Room::most_few, crate::specs::Room::picture_within, crate::specs::Room::picture_few), unfolding(crate::specs::Code::lack))]
-fn lacking(planes: Planes, s: Session, before: usize, room: usize) -> Option<usize>
-    requires ready { Ready (sequence_of s) (lends_in planes) }
-    requires before_le_sets_most { before ≤ sets_most }
-    ensures { result ≡ lack (before + length (picture_bytes (sequence_of s) (lends_in planes.entry))) room }
-{
-    let most = before + picture_most(s);
-    if most <= room {
-        return None;
-    }
-    let need = before + picture_len(planes, s);
-    if need <= room {
-        return None;
-    }
-    Some(need)
+// A picture that passes the refusals: its planes, and the session that it begins.
+#[derive(Clone, Copy)]
+struct Admitted<'a> {
+    planes: Planes<'a>,
+    session: Session,
+    ghost ready: { Ready (sequence_of session) (lends_in planes) } by { Ready-prop (sequence_of session) (lends_in planes) },
 }
 
-// Writes a picture's unit at the place `at`, and answers the place behind it.
-fn put_picture(planes: Planes, s: Session, out: &mut [u8], at: usize) -> usize
-    requires ready { Ready (sequence_of s) (lends_in planes) }
-    requires strides_in_bounds { at + length (picture_bytes (sequence_of s) (lends_in planes)) ≤ length out.old }
-    ensures { Laid out.old at (picture_bytes (sequence_of s) (lends_in planes.entry)) out.new result }
-{
-    let a = unit::open_unit(out, at, 0x25);
-    slice::write::put_picture(planes, s, out, a)
+impl Admitted<'_> {
+    // The length of its unit.
+    #[tactic(auto, using(crate::specs::Code::picture_as, crate::specs::Room::picture_few))]
+    fn unit_len(&self) -> usize
+        ensures { result ≡ length (picture_bytes (sequence_of self.now.session) (lends_in self.now.planes)) }
+    {
+        5 + slice::count::escaped_len(self.planes, self.session)
+    }
+
+    // The length that is needed where `before` bytes and its unit are to be written; None where there is room. Where there is room for the most that the
+    // unit can be nothing is counted.
+    #[tactic(auto, using(crate::specs::Room::most_few, crate::specs::Room::picture_within, crate::specs::Room::picture_few), unfolding(crate::specs::Code::lack))]
+    fn lacking(&self, before: usize, room: usize) -> Option<usize>
+        requires { before ≤ sets_most }
+        ensures { result ≡ lack (before + length (picture_bytes (sequence_of self.now.session) (lends_in self.now.planes))) room }
+    {
+        let most = before + picture_most(self.session);
+        if most <= room {
+            return None;
+        }
+        let need = before + self.unit_len();
+        if need <= room {
+            return None;
+        }
+        Some(need)
+    }
+
+    // Writes its unit at the place `at`, and answers the place behind it.
+    fn put(&self, out: &mut [u8], at: usize) -> usize
+        requires { at + length (picture_bytes (sequence_of self.now.session) (lends_in self.now.planes)) ≤ length out.old }
+        ensures { Laid out.old at (picture_bytes (sequence_of self.now.session) (lends_in self.now.planes)) out.new result }
+    {
+        let a = unit::open_unit(out, at, 0x25);
+        slice::write::put_picture(self.planes, self.session, out, a)
+    }
 }
 
 // The start call: writes the parameter sets and the first picture, and begins a session.
@@ -182,12 +189,16 @@ pub fn start(picture: Picture, out: &mut [u8]) -> Result<Written, EncodeError>
     let image = picture.image();
     image.check_start()?;
     let session = image.session();
+    let admitted = Admitted {
+        planes: picture.planes,
+        session,
+    };
     let before = sets_len(session);
-    if let Some(need) = lacking(picture.planes, session, before, out.len()) {
+    if let Some(need) = admitted.lacking(before, out.len()) {
         return Err(EncodeError::NoRoom(need));
     }
     let at = put_sets(session, out);
-    let length = put_picture(picture.planes, session, out, at);
+    let length = admitted.put(out, at);
     Ok(Written { session, length })
 }
 
@@ -198,11 +209,14 @@ pub fn next(held: Session, picture: Picture, out: &mut [u8]) -> Result<Written, 
 {
     let image = picture.image();
     image.check_next(held)?;
-    let s = image.session();
-    if let Some(need) = lacking(picture.planes, s, 0, out.len()) {
+    let admitted = Admitted {
+        planes: picture.planes,
+        session: image.session(),
+    };
+    if let Some(need) = admitted.lacking(0, out.len()) {
         return Err(EncodeError::NoRoom(need));
     }
-    let length = put_picture(picture.planes, s, out, 0);
+    let length = admitted.put(out, 0);
     Ok(Written {
         session: held,
         length,

@@ -15,32 +15,29 @@ returns-in_err-check_next c =
     let f = c.from_residual.ensures in
     record { value = grind (arith, common_steps, named-number x, r.0); out_after = r.1 }
 
-pub lacking-requires-clause-ready : goal.lacking-requires-clause-ready
-lacking-requires-clause-ready c =
+pub invariant_of-admitted : goal.invariant_of-admitted
+invariant_of-admitted c =
     let s = c.args in
     let p : Shot = shot_of s.picture in
-    let t = taken_next {p = p} s.held c.image-image.ensures c.in_ok-check_next.ensures refl c.session-s.ensures in
-    ready t
+    let t = taken_next {p = p} s.held c.image-image.ensures c.in_ok-check_next.ensures refl c.session.ensures in
+    record { ready = ready t }
 
 pub returns-in-Some : goal.returns-in-Some
 returns-in-Some c =
     let s = c.args in
     let p : Shot = shot_of s.picture in
-    let t = taken_next {p = p} s.held c.image-image.ensures c.in_ok-check_next.ensures refl c.session-s.ensures in
+    let t = taken_next {p = p} s.held c.image-image.ensures c.in_ok-check_next.ensures refl c.session.ensures in
     let r = next_lacking s.held _ _ s.out.now t c.in_ok-check_next.ensures refl c.in-Some.ensures in
     record { value = r.0; out_after = r.1 }
 
-pub put_picture-length-requires : goal.put_picture-length-requires
-put_picture-length-requires c =
-    let s = c.args in
-    let p : Shot = shot_of s.picture in
-    let t = taken_next {p = p} s.held c.image-image.ensures c.in_ok-check_next.ensures refl c.session-s.ensures in
-    record { ready = ready t; strides_in_bounds = has_room _ _ _ c.in_default.ensures refl }
+pub put-length-requires : goal.put-length-requires
+put-length-requires c =
+    has_room _ _ _ c.in_default.ensures refl
 
 pub returns : goal.returns
 returns c =
     let s = c.args in
     let p : Shot = shot_of s.picture in
-    let t = taken_next {p = p} s.held c.image-image.ensures c.in_ok-check_next.ensures refl c.session-s.ensures in
-    let r = next_written s.held _ t c.in_ok-check_next.ensures refl (has_room _ _ _ c.in_default.ensures refl) c.put_picture-length.ensures in
+    let t = taken_next {p = p} s.held c.image-image.ensures c.in_ok-check_next.ensures refl c.session.ensures in
+    let r = next_written s.held _ t c.in_ok-check_next.ensures refl (has_room _ _ _ c.in_default.ensures refl) c.put-length.ensures in
     record { value = r.0; out_after = r.1 }

@@ -23,12 +23,12 @@ sets_len-before-requires c =
     let t = taken_start {p = p} c.image-image.ensures c.in_ok-check_start.ensures refl c.session-session.ensures in
     sized t
 
-pub lacking-requires-clause-ready : goal.lacking-requires-clause-ready
-lacking-requires-clause-ready c =
+pub invariant_of-admitted : goal.invariant_of-admitted
+invariant_of-admitted c =
     let s = c.args in
     let p : Shot = shot_of s.picture in
     let t = taken_start {p = p} c.image-image.ensures c.in_ok-check_start.ensures refl c.session-session.ensures in
-    ready t
+    record { ready = ready t }
 
 pub returns-in-Some : goal.returns-in-Some
 returns-in-Some c =
@@ -46,14 +46,11 @@ put_sets-at-requires c =
     let m = has_room _ _ _ c.in_default.ensures refl in
     record { s_value = sized t; s_in_bounds = omega (arith, c.sets_len-before.ensures.0) }
 
-pub put_picture-length-requires : goal.put_picture-length-requires
-put_picture-length-requires c =
-    let s = c.args in
-    let p : Shot = shot_of s.picture in
-    let t = taken_start {p = p} c.image-image.ensures c.in_ok-check_start.ensures refl c.session-session.ensures in
+pub put-length-requires : goal.put-length-requires
+put-length-requires c =
     let m = has_room _ _ _ c.in_default.ensures refl in
     let g = c.put_sets-at.ensures in
-    record { ready = ready t; strides_in_bounds = omega (arith, c.sets_len-before.ensures.0, g.place, laid-length g (omega (arith, c.sets_len-before.ensures.0))) }
+    omega (arith, c.sets_len-before.ensures.0, g.place, laid-length g (omega (arith, c.sets_len-before.ensures.0)))
 
 pub returns : goal.returns
 returns c =
@@ -61,5 +58,5 @@ returns c =
     let p : Shot = shot_of s.picture in
     let t = taken_start {p = p} c.image-image.ensures c.in_ok-check_start.ensures refl c.session-session.ensures in
     let m = has_room _ _ _ c.in_default.ensures refl in
-    let r = start_written _ t c.in_ok-check_start.ensures refl (omega (arith, c.sets_len-before.ensures.0)) c.put_sets-at.ensures c.put_picture-length.ensures in
+    let r = start_written _ t c.in_ok-check_start.ensures refl (omega (arith, c.sets_len-before.ensures.0)) c.put_sets-at.ensures c.put-length.ensures in
     record { value = r.0; out_after = r.1 }
