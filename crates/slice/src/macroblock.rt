@@ -79,7 +79,8 @@ pub fn lay_rows(
     }
 }
 
-// Lays the block of plane p, which lies in a, in macroblock row my and column mx.
+// Lays the block of plane p, which lies in a, in macroblock row my and column mx. Plane and stride are given beside the number: a method that finds them by it
+// was tried, and counting a picture took an eighth longer.
 fn block(
     a: &[u8],
     stride: usize,
