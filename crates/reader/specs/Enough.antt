@@ -1,4 +1,4 @@
--- Planes that are long enough (paper 01, refusal 19). What a call answers turns on the lengths of the lent planes in 19 alone: where each is at least as long
+-- Planes that are long enough (refusal 19). What a call answers turns on the lengths of the lent planes in 19 alone: where each is at least as long
 -- as `plane_len` says for what is held, it does not turn on them.
 --     Enough room h     each lent plane has the bytes that a picture needs while h is held; where no size is, none
 --     plain h u         what the reader makes of a unit with planes of just these lengths

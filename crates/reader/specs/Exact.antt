@@ -1,4 +1,4 @@
--- 17 and 18 are exact (paper 01, "Reading a take"): a picture's payload is refused with neither exactly if it is the payload of some planes, lent whole.
+-- 17 and 18 are exact: a picture's payload is refused with neither exactly if it is the payload of some planes, lent whole.
 --     IsPicture q X     X is the payload of some planes of bytes, lent whole
 --     picture_exact     so of each payload of bytes, whatever planes are lent to the reader
 --     Holds h q         both parameter sets are held, and they say q

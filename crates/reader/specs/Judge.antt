@@ -1,4 +1,4 @@
--- What the reader makes of a unit (paper 01, "Reading a take"): the judge of the walk in crate nal_unit. The unit u is what stands behind its start code,
+-- What the reader makes of a unit (refusals 11 to 19): the judge of the walk in crate nal_unit. The unit u is what stands behind its start code,
 -- less trailing zeros.
 --     Held                 the parameter sets held: the sequence parameter set as its size and kind, or none, and whether a picture parameter set is
 --     Word                 what is answered about a unit: an SPS, a PPS, a picture with its visible samples stored tight, or a refusal

@@ -34,25 +34,24 @@ impl HeldSets {
     }
 }
 
-// A unit that a call at `place` has found while these sets were held, and where the next start code is, or the end.
+// A unit that a call of this reader has found, and where the next start code is, or the end.
 #[derive(Clone, Copy)]
 struct Found<'a> {
     unit: NalUnit<'a>,
-    place: usize,
-    sets: HeldSets,
+    reader: Reader,
     next: usize,
 }
 
 impl Found<'_> {
     // A refusal, which keeps the held sets and moves on.
     fn refused(self, refusal: Refusal) -> Step
-        ensures { Judged (keep (held_of self.entry.sets) (refused (number refusal))) self.entry.place self.entry.unit.begin self.entry.next result }
+        ensures { Judged (keep (held_of self.entry.reader.sets) (refused (number refusal))) self.entry.reader.place self.entry.unit.begin self.entry.next result }
     {
         Step {
             answer: Answer::Refused(refusal, self.unit.begin),
             reader: Reader {
                 place: self.next,
-                sets: self.sets,
+                ..self.reader
             },
         }
     }
@@ -60,22 +59,22 @@ impl Found<'_> {
     // A unit with the header of a sequence parameter set: held from now on where none is, else compared with the one that is held.
     fn sps(self) -> Step
         requires { IsUnit self.unit }
-        ensures { Judged (sps_verdict (held_of self.entry.sets) (counted (held_of self.entry.sets)) (read_sps base_level (payload_of self.entry.unit))) self.entry.place self.entry.unit.begin self.entry.next result }
+        ensures { Judged (sps_verdict (held_of self.entry.reader.sets) (counted (held_of self.entry.reader.sets)) (read_sps base_level (payload_of self.entry.unit))) self.entry.reader.place self.entry.unit.begin self.entry.next result }
     {
         let Some(sps) = self.unit.read_sps() else {
             return self.refused(Refusal::ParameterSet);
         };
-        let counted = self.sets.counted();
+        let counted = self.reader.sets.counted();
         let sets = match counted.sps {
             None => HeldSets {
                 sps: Some(sps),
-                pps: counted.pps,
+                ..counted
             },
             Some(held) => {
                 if held.differs(sps) {
                     return self.refused(Refusal::OtherThanHeld);
                 }
-                self.sets
+                self.reader.sets
             }
         };
         Step {
@@ -90,7 +89,7 @@ impl Found<'_> {
     // A unit with the header of a picture parameter set.
     fn pps(self) -> Step
         requires { IsUnit self.unit }
-        ensures { Judged (pps_verdict (held_of self.entry.sets) (counted (held_of self.entry.sets)) (payload_of self.entry.unit)) self.entry.place self.entry.unit.begin self.entry.next result }
+        ensures { Judged (pps_verdict (held_of self.entry.reader.sets) (counted (held_of self.entry.reader.sets)) (payload_of self.entry.unit)) self.entry.reader.place self.entry.unit.begin self.entry.next result }
     {
         if !self.unit.is_pps() {
             return self.refused(Refusal::ParameterSet);
@@ -100,8 +99,8 @@ impl Found<'_> {
             reader: Reader {
                 place: self.next,
                 sets: HeldSets {
-                    sps: self.sets.counted().sps,
                     pps: true,
+                    ..self.reader.sets.counted()
                 },
             },
         }
@@ -123,9 +122,9 @@ impl Found<'_> {
     fn picture(self, calm: usize, y: &mut [u8], cb: &mut [u8], cr: &mut [u8]) -> Step
         requires unit_at { IsUnit self.unit }
         requires stop_value { ins_count self.unit.take.now calm self.unit.end ≡ 0 }
-        ensures { Shown (held_verdict (rooms y.old cb.old cr.old) (held_of self.entry.sets) (counted (held_of self.entry.sets)) (payload_of self.entry.unit)) self.entry.place self.entry.unit.begin self.entry.next result y.old y.new cb.old cb.new cr.old cr.new }
+        ensures { Shown (held_verdict (rooms y.old cb.old cr.old) (held_of self.entry.reader.sets) (counted (held_of self.entry.reader.sets)) (payload_of self.entry.unit)) self.entry.reader.place self.entry.unit.begin self.entry.next result y.old y.new cb.old cb.new cr.old cr.new }
     {
-        let held = self.sets.counted();
+        let held = self.reader.sets.counted();
         let Some(q) = held.sps else {
             return self.refused(Refusal::NothingHeld);
         };
@@ -143,10 +142,7 @@ impl Found<'_> {
         if is_short(q, y, cb, cr) {
             return Step {
                 answer: Answer::Refused(Refusal::Planes, self.unit.begin),
-                reader: Reader {
-                    place: self.place,
-                    sets: self.sets,
-                },
+                reader: self.reader,
             };
         }
         self.unit.take_samples(calm, q, y, cb, cr);
@@ -154,13 +150,14 @@ impl Found<'_> {
             answer: Answer::Picture(self.unit.begin),
             reader: Reader {
                 place: self.next,
-                sets: self.sets,
+                ..self.reader
             },
         }
     }
 }
 
 // Whether a lent plane that the kind uses has fewer bytes than its visible rows, stored tight.
+#[tactic(auto, unfolding(crate::specs::Judge::short, crate::specs::Read::room_of))]
 fn is_short(q: Session, y: &[u8], cb: &[u8], cr: &[u8]) -> bool
     requires { accepted (sequence_of q) ≡ true }
     ensures { result ≡ short (rooms y.now cb.now cr.now) (sequence_of q) }
@@ -168,18 +165,17 @@ fn is_short(q: Session, y: &[u8], cb: &[u8], cr: &[u8]) -> bool
     y.len() < q.tight_len(0) || cb.len() < q.tight_len(1) || cr.len() < q.tight_len(2)
 }
 
-// The unit whose bytes begin at `begin`, behind its start code, in a call at `place`: 11 and 12 first, then by its header, 13 where it is none of the three.
+// The unit whose bytes begin at `begin`, behind its start code, in a call of this reader: 11 and 12 first, then by its header, 13 where it is none of the three.
 pub fn read_unit(
     take: &[u8],
-    place: usize,
+    reader: Reader,
     begin: usize,
-    sets: HeldSets,
     y: &mut [u8],
     cb: &mut [u8],
     cr: &mut [u8],
 ) -> Step
     requires { (1 ≤ begin) × (begin ≤ length take.now) }
-    ensures { Shown (judge (rooms y.old cb.old cr.old) (held_of sets) (unit_of (drop begin take.now))) place begin (begin + next (drop begin take.now)) result y.old y.new cb.old cb.new cr.old cr.new }
+    ensures { Shown (judge (rooms y.old cb.old cr.old) (held_of reader.sets) (unit_of (drop begin take.now))) reader.place begin (begin + next (drop begin take.now)) result y.old y.new cb.old cb.new cr.old cr.new }
 {
     let scanned = scan::unit_scan(take, begin);
     let unit = NalUnit {
@@ -189,8 +185,7 @@ pub fn read_unit(
     };
     let found = Found {
         unit,
-        place,
-        sets,
+        reader,
         next: scanned.end,
     };
     if scanned.stop <= begin {

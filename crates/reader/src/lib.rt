@@ -118,5 +118,5 @@ pub fn read(take: &[u8], reader: Reader, y: &mut [u8], cb: &mut [u8], cr: &mut [
             reader,
         };
     }
-    judge::read_unit(take, place, code + 3, sets, y, cb, cr)
+    judge::read_unit(take, reader, code + 3, y, cb, cr)
 }

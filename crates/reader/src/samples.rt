@@ -1,5 +1,6 @@
 // A picture's visible samples, taken from its unit into lent planes with tight rows. A row of macroblocks without inserted bytes is taken line by line of
 // each plane, so that a plane is written from its first byte to its last; so is one all samples of which are zero; another macroblock by macroblock.
+// The planes y, cb and cr stay three parameters: of a value that holds the three each function would have to promise besides that it keeps its references.
 ghost use Rattle.std.specs.Prelude.{◌≡◌, true, ℕ, ◌+◌, ◌*◌, ◌≤◌, ◌<◌, eqb, length, IfSome};
 ghost use Rattle.nal_unit.specs.Kept.{ins_count};
 ghost use Rattle.ycbcr_image.specs.Form.{planes, block_bytes, mb_bytes};
@@ -32,7 +33,8 @@ impl Coded<'_> {
     ghost use Rattle.reader.specs.Rows.{Took};
 
     // Takes h rows of bw bytes, which stand in the payload from its byte n on, at the place p of the unit: of each the first w bytes, into the output from the
-    // place `at` on, `step` bytes from row to row. Answers the place behind them.
+    // place `at` on, `step` bytes from row to row. Answers the place behind them. The numbers stay parameters: a value of them would be made and taken apart
+    // for this one call.
     fn take_rows(
         self,
         p: usize,

@@ -1,4 +1,4 @@
-// Parameter sets read from their units. The payload of one is short, or it is none of the form.
+// Parameter sets read from their units. The payload of one is short, or it is none of the form. It is kept in an array, with its length: there is no heap.
 ghost use Rattle.std.specs.Prelude.{◌≡◌};
 ghost use Rattle.lists.specs.Test.{same};
 ghost use Rattle.parameter_sets.specs.Sps.{base_level};

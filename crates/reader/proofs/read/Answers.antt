@@ -1,6 +1,5 @@
 -- `reader::read` meets its contract: the end, bytes that belong to no unit, or a unit. Assumes nothing.
 use Rattle.std.proofs.Common.{arith}
-use borrow.Author.Tests.{not-true, not-false}
 use Rattle.reader.specs.ReadCode.{next_inside, next_three, reads-beyond, reads-stray, reads_over, reads-unit}
 use Rattle.reader.proofs.read.Goals as goal
 
@@ -17,12 +16,12 @@ all_zero-requires c =
 pub returns-then-not-all_zero : goal.returns-then-not-all_zero
 returns-then-not-all_zero c =
     let a = c.args in
-    reads-stray a.take.now a.reader a.y.now a.cb.now a.cr.now c.next_code-code.ensures c.all_zero.ensures (not-true _ c.if-not-all_zero.true-raw)
+    reads-stray a.take.now a.reader a.y.now a.cb.now a.cr.now c.next_code-code.ensures c.all_zero.ensures c.if-not-all_zero.true
 
 pub returns-then-take-code : goal.returns-then-take-code
 returns-then-take-code c =
     let a = c.args in
-    reads_over a.take.now a.reader a.y.now a.cb.now a.cr.now c.next_code-code.ensures c.all_zero.ensures (not-false _ c.if-not-all_zero.false-raw) c.if-take-code.true
+    reads_over a.take.now a.reader a.y.now a.cb.now a.cr.now c.next_code-code.ensures c.all_zero.ensures c.if-not-all_zero.false c.if-take-code.true
 
 pub read_unit-requires : goal.read_unit-requires
 read_unit-requires c =
@@ -32,4 +31,4 @@ read_unit-requires c =
 pub returns : goal.returns
 returns c =
     let a = c.args in
-    reads-unit a.take.now a.reader a.y.now a.cb.now a.cr.now c.next_code-code.ensures c.all_zero.ensures (not-false _ c.if-not-all_zero.false-raw) c.if-take-code.false c.read_unit.ensures
+    reads-unit a.take.now a.reader a.y.now a.cb.now a.cr.now c.next_code-code.ensures c.all_zero.ensures c.if-not-all_zero.false c.if-take-code.false c.read_unit.ensures

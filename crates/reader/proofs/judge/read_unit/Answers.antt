@@ -12,13 +12,13 @@ pub returns-then-scanned-begin : goal.returns-then-scanned-begin
 returns-then-scanned-begin c =
     let a = c.args in
     let g = c.unit_scan-scanned.ensures in
-    shown-moved g.end (shown-refused a.y.now a.cb.now a.cr.now (unit-empty (rooms a.y.now a.cb.now a.cr.now) (held_of a.sets) g c.if-scanned-begin.true) c.refused.ensures)
+    shown-moved g.end (shown-refused a.y.now a.cb.now a.cr.now (unit-empty (rooms a.y.now a.cb.now a.cr.now) (held_of a.reader.sets) g c.if-scanned-begin.true) c.refused.ensures)
 
 pub returns-in_default : goal.returns-in_default
 returns-in_default c =
     let a = c.args in
     let g = c.unit_scan-scanned.ensures in
-    shown-moved g.end (shown-refused a.y.now a.cb.now a.cr.now (unit_bad (rooms a.y.now a.cb.now a.cr.now) (held_of a.sets) g c.if-scanned-begin.false c.requires.1 c.in_default.is) c.refused-in_default.ensures)
+    shown-moved g.end (shown-refused a.y.now a.cb.now a.cr.now (unit_bad (rooms a.y.now a.cb.now a.cr.now) (held_of a.reader.sets) g c.if-scanned-begin.false c.requires.1 c.in_default.is) c.refused-in_default.ensures)
 
 pub returns-in-103 : goal.returns-in-103
 returns-in-103 c =
@@ -28,8 +28,8 @@ returns-in-103 c =
     let room = rooms a.y.now a.cb.now a.cr.now in
     shown-moved g.end
     (shown_as
-    (header-sps room (held_of a.sets) X c.in-103.is ∙ unit_good room (held_of a.sets) g c.if-scanned-begin.false c.requires.1 c.in-Some.is)
-    (shown-sps a.y.now a.cb.now a.cr.now (held_of a.sets) (counted (held_of a.sets)) (read_sps base_level X) c.sps.ensures))
+    (header-sps room (held_of a.reader.sets) X c.in-103.is ∙ unit_good room (held_of a.reader.sets) g c.if-scanned-begin.false c.requires.1 c.in-Some.is)
+    (shown-sps a.y.now a.cb.now a.cr.now (held_of a.reader.sets) (counted (held_of a.reader.sets)) (read_sps base_level X) c.sps.ensures))
 
 pub returns-in-104 : goal.returns-in-104
 returns-in-104 c =
@@ -39,8 +39,8 @@ returns-in-104 c =
     let room = rooms a.y.now a.cb.now a.cr.now in
     shown-moved g.end
     (shown_as
-    (header_pps room (held_of a.sets) X c.in-104.is ∙ unit_good room (held_of a.sets) g c.if-scanned-begin.false c.requires.1 c.in-Some.is)
-    (shown_pps a.y.now a.cb.now a.cr.now (held_of a.sets) (counted (held_of a.sets)) X c.pps.ensures))
+    (header_pps room (held_of a.reader.sets) X c.in-104.is ∙ unit_good room (held_of a.reader.sets) g c.if-scanned-begin.false c.requires.1 c.in-Some.is)
+    (shown_pps a.y.now a.cb.now a.cr.now (held_of a.reader.sets) (counted (held_of a.reader.sets)) X c.pps.ensures))
 
 pub returns-in-37 : goal.returns-in-37
 returns-in-37 c =
@@ -50,7 +50,7 @@ returns-in-37 c =
     let room = rooms a.y.now a.cb.now a.cr.now in
     shown-moved g.end
     (shown_as
-    (header_picture room (held_of a.sets) X c.in-37.is ∙ unit_good room (held_of a.sets) g c.if-scanned-begin.false c.requires.1 c.in-Some.is)
+    (header_picture room (held_of a.reader.sets) X c.in-37.is ∙ unit_good room (held_of a.reader.sets) g c.if-scanned-begin.false c.requires.1 c.in-Some.is)
     c.picture.ensures)
 
 pub returns-in_default-take : goal.returns-in_default-take
@@ -62,5 +62,5 @@ returns-in_default-take c =
     let x = get_or a.take.now a.begin 0 in
     shown-moved g.end
     (shown-refused a.y.now a.cb.now a.cr.now
-    (header-other room (held_of a.sets) X (omega arith) (omega arith) (omega arith) ∙ unit_good room (held_of a.sets) g c.if-scanned-begin.false c.requires.1 c.in-Some.is)
+    (header-other room (held_of a.reader.sets) X (omega arith) (omega arith) (omega arith) ∙ unit_good room (held_of a.reader.sets) g c.if-scanned-begin.false c.requires.1 c.in-Some.is)
     c.refused-in_default-take.ensures)

@@ -13,17 +13,17 @@ use Rattle.reader.proofs.judge.Found.picture.Goals.{In-Some, Else-not-held, Afte
 
 -- a size that counts is an accepted one
 counts : (c : In-Some) → accepted (sequence_of c.in-Some.q) ≡ true
-counts c = counted-fit (held_of c.args.self.sets) _ c.counted-held.ensures c.in-Some.is
+counts c = counted-fit (held_of c.args.self.reader.sets) _ c.counted-held.ensures c.in-Some.is
 
 -- both parameter sets are held
 whole : (c : Else-not-held)
-    → picture_verdict (rooms c.args.y.now c.args.cb.now c.args.cr.now) (held_of c.args.self.sets) (sequence_of c.in-Some.q) (payload_at c.args.self.unit.take.now c.args.self.unit.begin c.args.self.unit.end)
-    ≡ held_verdict (rooms c.args.y.now c.args.cb.now c.args.cr.now) (held_of c.args.self.sets) (counted (held_of c.args.self.sets)) (payload_at c.args.self.unit.take.now c.args.self.unit.begin c.args.self.unit.end)
+    → picture_verdict (rooms c.args.y.now c.args.cb.now c.args.cr.now) (held_of c.args.self.reader.sets) (sequence_of c.in-Some.q) (payload_at c.args.self.unit.take.now c.args.self.unit.begin c.args.self.unit.end)
+    ≡ held_verdict (rooms c.args.y.now c.args.cb.now c.args.cr.now) (held_of c.args.self.reader.sets) (counted (held_of c.args.self.reader.sets)) (payload_at c.args.self.unit.take.now c.args.self.unit.begin c.args.self.unit.end)
 whole c =
     let a = c.args in
     let X = payload_at a.self.unit.take.now a.self.unit.begin a.self.unit.end in
     let room = rooms a.y.now a.cb.now a.cr.now in
-    sized_both room (held_of a.self.sets) (sequence_of c.in-Some.q) X (not-false _ c.if-not-held.false) ∙ held-sized room (held_of a.self.sets) _ X c.counted-held.ensures c.in-Some.is
+    sized_both room (held_of a.self.reader.sets) (sequence_of c.in-Some.q) X (not-false _ c.if-not-held.false) ∙ held-sized room (held_of a.self.reader.sets) _ X c.counted-held.ensures c.in-Some.is
 
 -- the two lengths
 measured : (c : After-payload_len-m) → Measured (sequence_of c.in-Some.q) (payload_at c.args.self.unit.take.now c.args.self.unit.begin c.args.self.unit.end) c.payload_len_to-n.result c.payload_len-m.result
@@ -32,7 +32,7 @@ measured c = record { has = small-length c.args.self.unit.take.now c.args.self.u
 pub returns-in_default : goal.returns-in_default
 returns-in_default c =
     let a = c.args in
-    shown-refused a.y.now a.cb.now a.cr.now (held-missing (rooms a.y.now a.cb.now a.cr.now) (held_of a.self.sets) _ _ c.counted-held.ensures c.in_default.is) c.refused.ensures
+    shown-refused a.y.now a.cb.now a.cr.now (held-missing (rooms a.y.now a.cb.now a.cr.now) (held_of a.self.reader.sets) _ _ c.counted-held.ensures c.in_default.is) c.refused.ensures
 
 pub returns-then-not-held : goal.returns-then-not-held
 returns-then-not-held c =
@@ -40,7 +40,7 @@ returns-then-not-held c =
     let room = rooms a.y.now a.cb.now a.cr.now in
     let X = payload_at a.self.unit.take.now a.self.unit.begin a.self.unit.end in
     shown-refused a.y.now a.cb.now a.cr.now
-    (sized-missing room (held_of a.self.sets) (sequence_of c.in-Some.q) X (not-true _ c.if-not-held.true) ∙ held-sized room (held_of a.self.sets) _ X c.counted-held.ensures c.in-Some.is)
+    (sized-missing room (held_of a.self.reader.sets) (sequence_of c.in-Some.q) X (not-true _ c.if-not-held.true) ∙ held-sized room (held_of a.self.reader.sets) _ X c.counted-held.ensures c.in-Some.is)
     c.refused-then-not-held.ensures
 
 pub payload_len-m-requires : goal.payload_len-m-requires
@@ -50,7 +50,7 @@ pub returns-then-n-m : goal.returns-then-n-m
 returns-then-n-m c =
     let a = c.args in
     let p = goal.at.returns-then-n-m c in
-    shown-refused a.y.now a.cb.now a.cr.now (picture_17 _ (held_of a.self.sets) _ _ (measured p.After-payload_len-m) c.if-n-m.true ∙ whole p.Else-not-held) c.refused-then-n-m.ensures
+    shown-refused a.y.now a.cb.now a.cr.now (picture_17 _ (held_of a.self.reader.sets) _ _ (measured p.After-payload_len-m) c.if-n-m.true ∙ whole p.Else-not-held) c.refused-then-n-m.ensures
 
 pub is_formless-requires-clause-q_value : goal.is_formless-requires-clause-q_value
 is_formless-requires-clause-q_value c = counts (goal.at.is_formless-requires-clause-q_value c).In-Some
@@ -65,7 +65,7 @@ returns-then-is_formless c =
     let a = c.args in
     let p = goal.at.returns-then-is_formless c in
     shown-refused a.y.now a.cb.now a.cr.now
-    (picture_18 _ (held_of a.self.sets) _ _ (measured p.After-payload_len-m) c.if-n-m.false c.is_formless.ensures c.if-is_formless.true ∙ whole p.Else-not-held)
+    (picture_18 _ (held_of a.self.reader.sets) _ _ (measured p.After-payload_len-m) c.if-n-m.false c.is_formless.ensures c.if-is_formless.true ∙ whole p.Else-not-held)
     c.refused-then-is_formless.ensures
 
 pub is_short-requires : goal.is_short-requires
@@ -76,14 +76,14 @@ returns-then-is_short c =
     let a = c.args in
     let p = goal.at.returns-then-is_short c in
     shown-refused a.y.now a.cb.now a.cr.now
-    (picture_19 _ (held_of a.self.sets) _ _ (measured p.After-payload_len-m) c.if-n-m.false c.is_formless.ensures c.if-is_formless.false c.is_short.ensures c.if-is_short.true ∙ whole p.Else-not-held)
+    (picture_19 _ (held_of a.self.reader.sets) _ _ (measured p.After-payload_len-m) c.if-n-m.false c.is_formless.ensures c.if-is_formless.false c.is_short.ensures c.if-is_short.true ∙ whole p.Else-not-held)
     record { answer = refl; place = refl; held = refl }
 
 pub take_samples-requires-clause-fine : goal.take_samples-requires-clause-fine
 take_samples-requires-clause-fine c =
     let a = c.args in
     let p = goal.at.take_samples-requires-clause-fine c in
-    (fine c.in-Some.q (counts p.In-Some), picture_exact (rooms a.y.now a.cb.now a.cr.now) (held_of a.self.sets) _ _ (measured p.After-payload_len-m) c.if-n-m.false c.is_formless.ensures c.if-is_formless.false)
+    (fine c.in-Some.q (counts p.In-Some), picture_exact (rooms a.y.now a.cb.now a.cr.now) (held_of a.self.reader.sets) _ _ (measured p.After-payload_len-m) c.if-n-m.false c.is_formless.ensures c.if-is_formless.false)
 
 pub take_samples-requires-clause-rooms : goal.take_samples-requires-clause-rooms
 take_samples-requires-clause-rooms c = rooms-enough _ c.args.y.now c.args.cb.now c.args.cr.now c.is_short.ensures c.if-is_short.false
@@ -94,6 +94,6 @@ returns c =
     let p = goal.at.returns c in
     let X = payload_at a.self.unit.take.now a.self.unit.begin a.self.unit.end in
     shown_picture (sequence_of c.in-Some.q) X
-    (picture_shown _ (held_of a.self.sets) _ _ (measured p.After-payload_len-m) c.if-n-m.false c.is_formless.ensures c.if-is_formless.false c.is_short.ensures c.if-is_short.false ∙ whole p.Else-not-held)
+    (picture_shown _ (held_of a.self.reader.sets) _ _ (measured p.After-payload_len-m) c.if-n-m.false c.is_formless.ensures c.if-is_formless.false c.is_short.ensures c.if-is_short.false ∙ whole p.Else-not-held)
     record { answer = refl; place = refl; held = refl }
     c.take_samples.ensures

@@ -10,16 +10,16 @@ returns-in_default c = judged_as (sps_not _ _ c.read_sps.ensures c.in_default.is
 
 pub returns-in-None : goal.returns-in-None
 returns-in-None c =
-    judged_as (sps-new (held_of c.args.self.sets) _ _ c.counted-counted.ensures c.in-None.is ∙ sps-form _ _ c.read_sps.ensures c.in-Some.is) record { answer = refl; place = refl; held = refl }
+    judged_as (sps-new (held_of c.args.self.reader.sets) _ _ c.counted-counted.ensures c.in-None.is ∙ sps-form _ _ c.read_sps.ensures c.in-Some.is) record { answer = refl; place = refl; held = refl }
 
 pub returns-then-differs : goal.returns-then-differs
 returns-then-differs c =
     judged_as
-    (compare-other _ _ _ c.differs.ensures c.if-differs.true ∙ (sps-held (held_of c.args.self.sets) _ _ c.counted-counted.ensures c.in-Some-sps.is ∙ sps-form _ _ c.read_sps.ensures c.in-Some.is))
+    (compare-other _ _ _ c.differs.ensures c.if-differs.true ∙ (sps-held (held_of c.args.self.reader.sets) _ _ c.counted-counted.ensures c.in-Some-sps.is ∙ sps-form _ _ c.read_sps.ensures c.in-Some.is))
     c.refused-then-differs.ensures
 
 pub returns-else-differs : goal.returns-else-differs
 returns-else-differs c =
     judged_as
-    (compare_same _ _ _ c.differs.ensures c.if-differs.false ∙ (sps-held (held_of c.args.self.sets) _ _ c.counted-counted.ensures c.in-Some-sps.is ∙ sps-form _ _ c.read_sps.ensures c.in-Some.is))
+    (compare_same _ _ _ c.differs.ensures c.if-differs.false ∙ (sps-held (held_of c.args.self.reader.sets) _ _ c.counted-counted.ensures c.in-Some-sps.is ∙ sps-form _ _ c.read_sps.ensures c.in-Some.is))
     record { answer = refl; place = refl; held = refl }

@@ -26,14 +26,8 @@ pub returns-then-is_monochrome : goal.returns-then-is_monochrome
 returns-then-is_monochrome c =
     mono-took c.args.cb.now c.args.cr.now c.args.self.fine (sym c.is_monochrome.ensures ∙ c.if-is_monochrome.true) c.args.my c.args.mx c.requires.my_bound.0 c.requires.my_bound.1 c.take_block-b.ensures
 
-pub take_block-c-requires-clause-stands : goal.take_block-c-requires-clause-stands
-take_block-c-requires-clause-stands c = block_next (sequence_of c.args.self.q) (c.args.my * pic_width_in_mbs (sequence_of c.args.self.q) + c.args.mx) 0 (omega arith) c.take_block-b.ensures.at
-
 pub take_block-c-requires-clause-k_bound : goal.take_block-c-requires-clause-k_bound
 take_block-c-requires-clause-k_bound c = (omega arith, in_colour (sequence_of c.args.self.q).form 1 (sym c.is_monochrome.ensures ∙ c.if-is_monochrome.false) (omega arith))
-
-pub take_block-requires-clause-stands : goal.take_block-requires-clause-stands
-take_block-requires-clause-stands c = block_next (sequence_of c.args.self.q) (c.args.my * pic_width_in_mbs (sequence_of c.args.self.q) + c.args.mx) 1 (omega arith) c.take_block-c.ensures.at
 
 pub take_block-requires-clause-k_bound : goal.take_block-requires-clause-k_bound
 take_block-requires-clause-k_bound c = (omega arith, in_colour (sequence_of c.args.self.q).form 2 (sym c.is_monochrome.ensures ∙ c.if-is_monochrome.false) (omega arith))

@@ -14,9 +14,6 @@ pub loop-y-init : goal.loop-y-init
 loop-y-init c =
     laying_start c.args.out.now c.args.at _ 0 c.args.h (omega (arith, cat-length (even (goal.at.loop-y-init c).Start), c.requires.rest_in_bounds))
 
-pub line-a-requires-clause-pieced : goal.line-a-requires-clause-pieced
-line-a-requires-clause-pieced c = line_in c.requires.banded c.loop-y.y c.loop-y-test.true
-
 pub line-a-requires-clause-rest_in_bounds : goal.line-a-requires-clause-rest_in_bounds
 line-a-requires-clause-rest_in_bounds c =
     omega (arith, laying_room c.loop-y.invariant c.loop-y-test.true, (even (goal.at.line-a-requires-clause-rest_in_bounds c).Start).each c.loop-y.y c.loop-y-test.true)

@@ -1,9 +1,9 @@
 -- `reader::unit::NalUnit::is_pps` meets its contract: a payload of another length is another. Assumes nothing.
-use Rattle.std.proofs.Common.{refl, sym, ap, ◌∙◌, List, ℕ, arith, length}
+use Rattle.std.proofs.Common.{refl, sym, ap, ◌∙◌, List, ℕ, length}
 use Rattle.lists.specs.Test.{same}
 use Rattle.parameter_sets.specs.Pps.{pps_payload, pps_is}
 use Rattle.parameter_sets.specs.Lists.{same_lengths}
-use Rattle.reader.specs.Heads.{unit-stands, small-length, small-kept, small_whole}
+use Rattle.reader.specs.Heads.{small-length, small-kept, small_whole}
 use Rattle.reader.proofs.unit.NalUnit.is_pps.Goals as goal
 
 pub returns-then-payload_len-ne3 : goal.returns-then-payload_len-ne3
@@ -11,13 +11,12 @@ returns-then-payload_len-ne3 c =
     let n = small-length c.args.self.take.now c.args.self.begin c.args.self.end c.payload_len.ensures in
     sym (same_lengths _ _ (λ f. c.if-payload_len-ne3.true (n ∙ (f ∙ ap length pps_is))))
 
-pub take_slow-requires : goal.take_slow-requires
-take_slow-requires c =
+pub take_slow-requires-clause-n_in_bounds : goal.take_slow-requires-clause-n_in_bounds
+take_slow-requires-clause-n_in_bounds c =
     let n = small-length c.args.self.take.now c.args.self.begin c.args.self.end c.payload_len.ensures in
-    let t = unit-stands c.requires in record { le_p = (t.low, t.high, t.inside); n_in_bounds = small-kept c.requires (sym c.if-payload_len-ne3.false ∙ n); n_in_bounds_2 = omega arith }
+    small-kept c.requires (sym c.if-payload_len-ne3.false ∙ n)
 
 pub returns : goal.returns
 returns c =
     let n = small-length c.args.self.take.now c.args.self.begin c.args.self.end c.payload_len.ensures in
-    let m = sym c.if-payload_len-ne3.false ∙ n in
-    c.is_pps.ensures ∙ ap (λ (p : List ℕ). same p pps_payload) (small_whole c.requires m refl c.take_slow.ensures)
+    c.is_pps.ensures ∙ ap (λ (p : List ℕ). same p pps_payload) (small_whole c.requires (sym c.if-payload_len-ne3.false ∙ n) refl c.take_slow.ensures)

@@ -1,9 +1,9 @@
 -- `reader::unit::NalUnit::read_sps` meets its contract: a payload of more bytes than the longest form has is none. Assumes nothing.
-use Rattle.std.proofs.Common.{sym, ap, ◌∙◌, List, ℕ, arith, length}
+use Rattle.std.proofs.Common.{sym, ap, ◌∙◌, List, ℕ, arith}
 use Rattle.parameter_sets.specs.Sps.{base_level}
 use Rattle.parameter_sets.specs.Read.{read_sps}
 use Rattle.parameter_sets.specs.Code.{read_none}
-use Rattle.reader.specs.Heads.{unit-stands, small-length, small-kept, small-took}
+use Rattle.reader.specs.Heads.{small-length, small-kept, small-took}
 use Rattle.reader.proofs.unit.NalUnit.read_sps.Goals as goal
 
 pub returns-then-n-gt32 : goal.returns-then-n-gt32
@@ -11,15 +11,8 @@ returns-then-n-gt32 c =
     let n = small-length c.args.self.take.now c.args.self.begin c.args.self.end c.payload_len-n.ensures in
     sym (read_none _ _ (λ f. omega (arith, f.most, c.if-n-gt32.true, n)))
 
-pub take_slow-requires : goal.take_slow-requires
-take_slow-requires c =
-    let n = small-length c.args.self.take.now c.args.self.begin c.args.self.end c.payload_len-n.ensures in
-    let t = unit-stands c.requires in record { le_p = (t.low, t.high, t.inside); n_in_bounds = small-kept c.requires n; n_in_bounds_2 = omega (arith, c.if-n-gt32.false) }
-
-pub slice_bounds-read_sps-end : goal.slice_bounds-read_sps-end
-slice_bounds-read_sps-end c =
-    let n = small-length c.args.self.take.now c.args.self.begin c.args.self.end c.payload_len-n.ensures in
-    n ∙ sym (ap length (small-took c.requires n (omega (arith, c.if-n-gt32.false)) c.take_slow.ensures))
+pub take_slow-requires-clause-n_in_bounds : goal.take_slow-requires-clause-n_in_bounds
+take_slow-requires-clause-n_in_bounds c = small-kept c.requires (small-length c.args.self.take.now c.args.self.begin c.args.self.end c.payload_len-n.ensures)
 
 pub returns : goal.returns
 returns c =
