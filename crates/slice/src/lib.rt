@@ -32,6 +32,7 @@ pub struct Planes<'a> {
 }
 
 // The length of a picture's payload: four bytes of header, two before each other macroblock, the samples, the last byte.
+#[tactic(auto, using(crate::specs::Picture::length_by), unfolding(crate::specs::Picture::picture_length))]
 pub fn payload_len(s: Session) -> usize
     requires { Fine (sequence_of s) }
     ensures { result ≡ picture_length (sequence_of s) }

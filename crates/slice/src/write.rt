@@ -15,6 +15,7 @@ use ycbcr_image::Session;
 
 impl Picture<'_> {
     // How many macroblocks are laid at once: a kilobyte of samples, one macroblock at least.
+    #[tactic(auto, using(crate::specs::Macroblocks::once), unfolding(crate::specs::Macroblocks::at_once))]
     fn at_once(&self) -> usize
         ensures { result ≡ at_once (sequence_of self.now.s).form }
     {
