@@ -446,13 +446,30 @@ blank_each [] f = refl
 blank_each (x ∷ l) f = rw (eq-eqb x 0 (f 0 (omega arith))) (blank_each l (λ k m. f (suc k) (omega arith)))
 
 -- so that a Bool which says whether each is says what `blank` does
-pub blank_by : (b : Bool) (l : List ℕ) → (b ≡ true → (k : ℕ) → k < length l → get_or l k 0 ≡ 0) → (b ≡ false → (k : ℕ) × (k < length l) × (0 < get_or l k 0)) → b ≡ blank l
-blank_by true l f g = sym (blank_each l (f refl))
-blank_by false l f g = let w = g refl in by (blank l) refl w.0 w.2
+pub blank_by : (b : Bool) (s : List ℕ) (from to : ℕ) → to ≤ length s → (b ≡ true → (k : ℕ) → from ≤ k → k < to → get_or s k 0 ≡ 0)
+    → (b ≡ false → (k : ℕ) × (from ≤ k) × (k < to) × (0 < get_or s k 0)) → b ≡ blank (take (to - from) (drop from s))
+blank_by b s from to h f g = by b f g
   where
-    by : (c : Bool) → blank l ≡ c → (k : ℕ) → 0 < get_or l k 0 → false ≡ c
-    by true e k m = absurd (omega (arith, blank_at l k e))
-    by false e k m = refl
+    l : List ℕ
+    l = take (to - from) (drop from s)
+
+    at : (k : ℕ) → k < to - from → get_or l k 0 ≡ get_or s (from + k) 0
+    at k m = get_or-take (to - from) (drop from s) k 0 m ∙ get_or-drop from s k 0
+
+    size : length l ≡ to - from
+    size = length-take-le (to - from) (drop from s) (omega (arith, length-drop from s))
+
+    not-blank : (c : Bool) → blank l ≡ c → (k : ℕ) → 0 < get_or l k 0 → false ≡ c
+    not-blank true e k m = absurd (omega (arith, blank_at l k e))
+    not-blank false e k m = refl
+
+    by : (b : Bool) → (b ≡ true → (k : ℕ) → from ≤ k → k < to → get_or s k 0 ≡ 0)
+        → (b ≡ false → (k : ℕ) × (from ≤ k) × (k < to) × (0 < get_or s k 0)) → b ≡ blank l
+    by true f g = sym (blank_each l (λ k m. let i : k < to - from = omega (arith, size) in at k i ∙ f refl (from + k) (omega arith) (omega arith)))
+    by false f g =
+        let w = g refl in
+        let p : from + (w.0 - from) ≡ w.0 = omega (arith, w.1) in
+        not-blank (blank l) refl (w.0 - from) (rw (at (w.0 - from) (omega (arith, w.1, w.2)), p) w.3)
 
 -- a byte above 0 among the first n is not taken off
 trim-keeps : (s : List ℕ) (n j : ℕ) → j < n → n ≤ length s → 0 < get_or s j 0 → j < length (trim (take n s))

@@ -207,5 +207,5 @@ pub fn all_zero(s: &[u8], from: usize, to: usize) -> bool
     requires { to ≤ length s.now }
     ensures { result ≡ blank (take (to - from) (drop from s.now)) }
 {
-    s[from.min(to)..to].iter().all(|b| *b == 0)
+    calm::at_each(from, to, |k| s[k] == 0)
 }

@@ -1,17 +1,10 @@
--- `nal_unit::scan::all_zero` meets its contract. Where the stretch ends before it begins, it is empty. Assumes nothing.
-use Rattle.std.proofs.Common.{rules, ◌≡◌, refl, ap, ◌∙◌, ◌-◌, take, drop, arith}
-use Rattle.lists.specs.Test.{either}
-use Rattle.nal_unit.specs.Walk.{blank}
+-- `nal_unit::scan::all_zero` meets its contract: the test of all bytes is that of each. Assumes nothing.
+use Rattle.std.proofs.Common.{rules}
 use Rattle.nal_unit.specs.ScanCode.{blank_by}
 use Rattle.nal_unit.proofs.scan.all_zero.Goals as goal
 
 pub returns : goal.returns
 returns c =
-    let a = c.args in
-    let s = a.s.now in
-    let m = c.min.result in
-    let same : take (a.to - m) (drop m s) ≡ take (a.to - a.from) (drop a.from s) =
-    either a.from a.to
-    (λ h. let e : m ≡ a.from = omega arith in rw e refl)
-    (λ h. let e : a.to - m ≡ 0 = omega arith in let f : a.to - a.from ≡ 0 = omega arith in rw (e, f) refl) in
-    blank_by c.all.result (take (a.to - m) (drop m s)) (search rules) (search rules) ∙ ap blank same
+    blank_by c.at_each.result c.args.s.now c.args.from c.args.to c.requires
+    (λ e k a l. let h = c.at_each.ensures.holds e k a l in search rules)
+    (λ e. let w = c.at_each.ensures.fails e in (w.0, w.1, w.2, let h = w.3 in search rules))
