@@ -1,5 +1,5 @@
 -- `reader::judge::read_unit` meets its contract: 11, 12, then what its header says. Assumes nothing.
-use Rattle.std.proofs.Common.{◌≡◌, ◌≢◌, ◌∙◌, refl, arith, get_or}
+use Rattle.std.proofs.Common.{◌∙◌, arith, get_or}
 use Rattle.parameter_sets.specs.Sps.{base_level}
 use Rattle.parameter_sets.specs.Read.{read_sps}
 use Rattle.reader.specs.Judge.{counted}

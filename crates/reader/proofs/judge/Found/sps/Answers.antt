@@ -1,6 +1,5 @@
 -- `reader::judge::Found::sps` meets its contract: held from now on, or compared with what is held. Assumes nothing.
-use Rattle.std.proofs.Common.{◌≡◌, refl, ◌∙◌}
-use Rattle.ycbcr_image.specs.Sizes.{sequence_of}
+use Rattle.std.proofs.Common.{refl, ◌∙◌}
 use Rattle.reader.specs.Read.{held_of}
 use Rattle.reader.specs.ReadCode.{judged_as, sps_not, sps-form, sps-new, sps-held, compare-other, compare_same}
 use Rattle.reader.proofs.judge.Found.sps.Goals as goal

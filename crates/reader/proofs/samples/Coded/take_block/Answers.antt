@@ -3,7 +3,7 @@ use Rattle.std.proofs.Common.{◌≡◌, sym, ◌-◌, ◌+◌, ◌*◌, ◌≤�
 use Rattle.nal_unit.specs.Kept.{kept}
 use Rattle.ycbcr_image.specs.Sizes.{sequence_of, pic_width_in_mbs}
 use Rattle.reader.specs.Heads.{payload_at}
-use Rattle.reader.specs.Samples.{head_place, block_place, BlockBy, block_by, block-there, place_byte, stands_as, rows-took_as, taking, rest_most, rest_there, block-took}
+use Rattle.reader.specs.Samples.{block_place, BlockBy, block_by, block-there, place_byte, stands_as, rows-took_as, taking, rest_most, rest_there, block-took}
 use Rattle.reader.proofs.samples.Coded.take_block.Goals as goal
 use Rattle.reader.proofs.samples.Coded.take_block.Goals.{After-visible_rows-vh}
 

@@ -4,7 +4,7 @@ use Rattle.ycbcr_image.specs.Form.{planes_some}
 use Rattle.ycbcr_image.specs.Sizes.{sequence_of, pic_width_in_mbs}
 use Rattle.nal_unit.specs.Taking.{stands-pass, stands_room}
 use Rattle.reader.specs.Heads.{payload_at}
-use Rattle.reader.specs.Samples.{head_place, block_place, mb_there, stands_as, block_next, in_colour, mono-took, colour-took}
+use Rattle.reader.specs.Samples.{head_place, block_place, mb_there, stands_as, in_colour, mono-took, colour-took}
 use Rattle.reader.proofs.samples.Coded.take_macroblock.Goals as goal
 
 pub skip-a-requires-clause-n_in_bounds : goal.skip-a-requires-clause-n_in_bounds

@@ -1,8 +1,8 @@
 -- `reader::samples::Pieces::band` meets its contract. The loop's invariant: the lines that are laid. Assumes nothing.
-use Rattle.std.proofs.Common.{◌≡◌, refl, ◌+◌, ◌*◌, arith}
+use Rattle.std.proofs.Common.{refl, ◌+◌, ◌*◌, arith}
 use Rattle.slice.specs.Cat.{Even, cat-length}
 use Rattle.slice.specs.Laid.{laying_start, laying_room, laying_turn, laying_end}
-use Rattle.reader.specs.Bands.{lines_of, line_in, lines_even, line-laid}
+use Rattle.reader.specs.Bands.{lines_of, lines_even, line-laid}
 use Rattle.reader.proofs.samples.Pieces.band.Goals as goal
 use Rattle.reader.proofs.samples.Pieces.band.Goals.{Start}
 

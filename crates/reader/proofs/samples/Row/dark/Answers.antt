@@ -1,10 +1,10 @@
 -- `reader::samples::Row::dark` meets its contract. The loop's invariant: the macroblocks that were found dark, and the place behind them. Assumes nothing.
-use Rattle.std.proofs.Common.{◌≡◌, ◌+◌, ◌*◌, ◌≤◌, refl, sym, ◌∙◌, arith, length, Some}
+use Rattle.std.proofs.Common.{◌≡◌, ◌+◌, ◌*◌, ◌≤◌, refl, sym, ◌∙◌, length, Some}
 use Rattle.ycbcr_image.specs.Sizes.{sequence_of, pic_width_in_mbs}
 use Rattle.nal_unit.specs.Taking.{stands-pass, behind_zeros}
 use Rattle.nal_unit.specs.TakingCode.{zeros-behind, zeros-are}
 use Rattle.reader.specs.Heads.{payload_at}
-use Rattle.reader.specs.Samples.{head_place, row-long, dark_start, dark_head, dark_samples, dark_turn, dark_row}
+use Rattle.reader.specs.Samples.{head_place, row-long, dark_head, dark_samples, dark_turn}
 use Rattle.reader.proofs.samples.Row.dark.Goals as goal
 use Rattle.reader.proofs.samples.Row.dark.Goals.{In-loop-mx}
 

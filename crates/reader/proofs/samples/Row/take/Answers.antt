@@ -1,5 +1,5 @@
 -- `reader::samples::Row::take` meets its contract: a row without inserted bytes is taken whole, a dark one is written, another macroblock by macroblock. Assumes nothing.
-use Rattle.std.proofs.Common.{◌≡◌, refl, sym, ◌∙◌, ◌+◌, ◌*◌, ◌≤◌, arith}
+use Rattle.std.proofs.Common.{refl, ◌+◌, ◌*◌, ◌≤◌, arith}
 use Rattle.ycbcr_image.specs.Form.{mb_bytes}
 use Rattle.ycbcr_image.specs.Sizes.{sequence_of, pic_width_in_mbs}
 use Rattle.nal_unit.specs.Taking.{calm_behind}

@@ -1,5 +1,5 @@
 -- `reader::samples::Row::take_band` meets its contract: the lines of the band are the plane's. Assumes nothing.
-use Rattle.std.proofs.Common.{◌≡◌, ◌*◌, ◌≤◌, ◌<◌, mul-le-mul_right, arith}
+use Rattle.std.proofs.Common.{◌*◌, ◌≤◌, ◌<◌, mul-le-mul_right, arith}
 use Rattle.ycbcr_image.specs.Sizes.{sequence_of}
 use Rattle.reader.specs.Samples.{BlockBy, block_by, band_room, band_fits, band_steps}
 use Rattle.reader.proofs.samples.Row.take_band.Goals as goal

@@ -1,6 +1,5 @@
 -- `reader::samples::Row::take_calm` meets its contract: the row stands in the unit as it does in the payload, and each plane has its band. Assumes nothing.
 use Rattle.std.proofs.Common.{◌≡◌, refl, sym, ap, ◌∙◌, ℕ, ◌+◌, ◌*◌, arith}
-use Rattle.std.proofs.lemmas.Bool.{not-true, not-false}
 use Rattle.ycbcr_image.specs.Form.{block_bytes, mb_bytes, planes_some}
 use Rattle.ycbcr_image.specs.Sizes.{sequence_of, pic_width_in_mbs}
 use Rattle.nal_unit.specs.Taking.{Stands}

@@ -1,7 +1,7 @@
 -- `reader::samples::Row::take_dark` meets its contract: each plane has its band of zeros. Assumes nothing.
-use Rattle.std.proofs.Common.{sym, ◌∙◌, ◌*◌, arith}
+use Rattle.std.proofs.Common.{sym, ◌∙◌, arith}
 use Rattle.ycbcr_image.specs.Form.{planes_some}
-use Rattle.ycbcr_image.specs.Sizes.{sequence_of, pic_width_in_mbs}
+use Rattle.ycbcr_image.specs.Sizes.{sequence_of}
 use Rattle.reader.specs.Samples.{in_colour, nothing-taken}
 use Rattle.reader.proofs.samples.Row.take_dark.Goals as goal
 

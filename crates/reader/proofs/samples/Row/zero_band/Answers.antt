@@ -1,5 +1,5 @@
 -- `reader::samples::Row::zero_band` meets its contract: the lines of the band are zeros. Assumes nothing.
-use Rattle.std.proofs.Common.{◌≡◌, refl, ◌*◌, ◌≤◌, mul-le-mul_right, arith}
+use Rattle.std.proofs.Common.{refl, ◌*◌, ◌≤◌, mul-le-mul_right, arith}
 use Rattle.ycbcr_image.specs.Form.{block_row_bytes}
 use Rattle.ycbcr_image.specs.Sizes.{sequence_of}
 use Rattle.reader.specs.Samples.{BlockBy, block_by, dark_fits, dark_steps}

@@ -1,7 +1,6 @@
 -- `reader::unit::NalUnit::take_samples` meets its contract. The loop's invariant: the macroblocks that are taken, and the place behind them. Assumes nothing.
 use Rattle.std.proofs.Common.{◌≡◌, sym, ap, ℕ, ◌+◌, ◌*◌, zero-mul, arith}
 use Rattle.ycbcr_image.specs.Sizes.{sequence_of, pic_width_in_mbs, frame_height_in_mbs}
-use Rattle.slice.specs.Picture.{mbs_in}
 use Rattle.nal_unit.specs.Taking.{stands-pass}
 use Rattle.reader.specs.Heads.{unit-stands, right_room}
 use Rattle.reader.specs.Samples.{stands_as, mbs_start, mbs_turn, mbs_as, mbs_end, first_head, planes-took}
