@@ -10,7 +10,7 @@
 --     reads_one               which is one thing: two answers of one call are the same, and so are the planes
 -- Assumes nothing.
 use Rattle.std.specs.Prelude.{◌≡◌, refl, Some, None, List, [], ◌++◌, Bool, cond, ℕ, ◌+◌, ltb, eqb, length, drop}
-use Rattle.std.specs.Prelude.{Option as Held_option}
+use Rattle.std.specs.Prelude as Prelude
 use Rattle.std.proofs.Common.{sym, ap, ◌∙◌}
 use Rattle.std.proofs.Math.Option.{Option, none, some}
 use Rattle.nal_unit.specs.Calls.{Say, ended, astray, said, at, Turn, turn}
@@ -64,7 +64,7 @@ number_told (pps_at o) = 0
 number_told (picture_at o) = 0
 number_told (refused_at o n) = n
 
-abbrev pub sps_of : Held_option Session → Option Sequence
+abbrev pub sps_of : Prelude.Option Session → Option Sequence
 sps_of None = none
 sps_of (Some s) = some (sequence_of s)
 
@@ -136,21 +136,21 @@ answer_back (Pps o) = refl
 answer_back (Picture o) = refl
 answer_back (Refused r o) = ap (λ (q : Refusal). Refused q o) (named-number r)
 
-abbrev sps_in : Option Sequence → Held_option Session
+abbrev sps_in : Option Sequence → Prelude.Option Session
 sps_in none = None
 sps_in (some q) = Some (session_in q)
 
-sps_back : (h : Held_option Session) → sps_in (sps_of h) ≡ h
+sps_back : (h : Prelude.Option Session) → sps_in (sps_of h) ≡ h
 sps_back None = refl
 sps_back (Some s) = ap (λ (t : Session). Some t) (session_back s)
 
 step_one : (r t : Step) → told_of r.answer ≡ told_of t.answer → r.reader.place ≡ t.reader.place → held_of r.reader.sets ≡ held_of t.reader.sets → r ≡ t
 step_one r t a p h = of (sym (answer_back _) ∙ (ap answer_in a ∙ answer_back _)) p (sym (sps_back _) ∙ (ap (λ (k : Held). sps_in k.sps) h ∙ sps_back _)) (ap (λ (k : Held). k.pps) h)
   where
-    made : Answer → ℕ → Held_option Session → Bool → Step
+    made : Answer → ℕ → Prelude.Option Session → Bool → Step
     made a p s b = record { answer = a; reader = record { place = p; sets = record { sps = s; pps = b } } }
 
-    of : {a a' : Answer} {p p' : ℕ} {s s' : Held_option Session} {b b' : Bool} → a ≡ a' → p ≡ p' → s ≡ s' → b ≡ b' → made a p s b ≡ made a' p' s' b'
+    of : {a a' : Answer} {p p' : ℕ} {s s' : Prelude.Option Session} {b b' : Bool} → a ≡ a' → p ≡ p' → s ≡ s' → b ≡ b' → made a p s b ≡ made a' p' s' b'
     of a p s b = rw (a, p, s, b) refl
 
 pub reads_one : {s : List ℕ} {b : Reader} {y cb cr : List ℕ} {r t : Step} {y' cb' cr' y'' cb'' cr'' : List ℕ} → Reads s b y cb cr r y' cb' cr' → Reads s b y cb cr t y'' cb'' cr''

@@ -4,7 +4,7 @@
 --     spared h q            h where q is a possible size and kind, else nothing
 -- Assumes nothing.
 use Rattle.std.specs.Prelude.{◌≡◌, Some, None, is_none, List, [], ◌∷◌, Bool, not, ◌||◌, ℕ, ◌+◌, ◌-◌, ◌≤◌, ◌<◌, ltb, length, take, drop, get_or}
-use Rattle.std.specs.Prelude.{Option as Held_option}
+use Rattle.std.specs.Prelude as Prelude
 use Rattle.std.proofs.Math.Path.{refl, sym}
 use Rattle.std.proofs.Common.{ap, ◌∙◌, true≢false, length-drop, drop_of_length-le}
 use Rattle.std.proofs.Math.Bool.{true, false, cond, and-eq-true_iff}
@@ -125,11 +125,11 @@ pub sps-held : (h : Held) (q : Sequence) (c : HeldSets) {s : Session} → held_o
 unfolding sps_verdict
 sps-held h q c e f = rw (← e, f) refl
 
-pub sps_not : (h c : Held) {r : Held_option Session} {m : Option Sequence} → sps_of r ≡ m → r ≡ None → keep h (refused 14) ≡ sps_verdict h c m
+pub sps_not : (h c : Held) {r : Prelude.Option Session} {m : Option Sequence} → sps_of r ≡ m → r ≡ None → keep h (refused 14) ≡ sps_verdict h c m
 unfolding sps_verdict
 sps_not h c e f = rw (← e, f) refl
 
-pub sps-form : (h c : Held) {r : Held_option Session} {m : Option Sequence} {q : Session} → sps_of r ≡ m → r ≡ Some q → sps_verdict h c (some (sequence_of q)) ≡ sps_verdict h c m
+pub sps-form : (h c : Held) {r : Prelude.Option Session} {m : Option Sequence} {q : Session} → sps_of r ≡ m → r ≡ Some q → sps_verdict h c (some (sequence_of q)) ≡ sps_verdict h c m
 sps-form h c e f = rw (← e, f) refl
 
 pub pps_not : (h c : Held) (X : List ℕ) {b : Bool} → b ≡ same X pps_payload → b ≡ false → keep h (refused 14) ≡ pps_verdict h c X
@@ -315,13 +315,13 @@ module _ (room : ℕ → ℕ) (h : Held) {s : List ℕ} {o : ℕ} {r : UnitScan}
   pub unit_bad : o < r.stop → o ≤ length s → r.calm ≡ None → keep h (refused 12) ≡ judge room h (unit_of (drop o s))
   unfolding judge
   unit_bad l i e =
-      let f : fault (unit_of (drop o s)) ≡ true = sym g.bad ∙ ap (λ (m : Held_option ℕ). is_none m) e in
+      let f : fault (unit_of (drop o s)) ≡ true = sym g.bad ∙ ap (λ (m : Prelude.Option ℕ). is_none m) e in
       rw (opens l i) (rw (rw (opens l i) at f) refl)
 
   pub unit_good : o < r.stop → o ≤ length s → {k : ℕ} → r.calm ≡ Some k → unit_verdict room h (get_or s o 0) (payload_at s o r.stop) ≡ judge room h (unit_of (drop o s))
   unfolding judge payload_at
   unit_good l i e =
-      let f : fault (unit_of (drop o s)) ≡ false = sym g.bad ∙ ap (λ (m : Held_option ℕ). is_none m) e in
+      let f : fault (unit_of (drop o s)) ≡ false = sym g.bad ∙ ap (λ (m : Prelude.Option ℕ). is_none m) e in
       rw (opens l i) (rw (rw (opens l i) at f) refl)
 
 -- ---- the call

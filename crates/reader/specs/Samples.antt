@@ -1,10 +1,12 @@
 -- Laws of taking a picture's visible samples by the places of its unit, for the code.
+--     fine_props                that a size is an accepted one has one proof at most, so that a value can keep it
 --     RowsTook, RowsTaking      rows that were taken into a plane, and the place behind them; rows that are being taken
 --     shown-high, shown-row     what is visible of a plane reaches into each of its blocks
 --     BlockBy, BlockTook        a block by the numbers that the code has; what is visible of it was taken
+--     head_place, block_place   where a macroblock's head begins in the payload, and the block of a plane in it
 --     Steps, MbsTook            what is visible of some macroblocks was taken into a plane, into the three
 --     RowStands, band_steps     a row of macroblocks without inserted bytes, and what is visible of a plane in it
---     DarkRow, dark_steps       one all samples of which are zero
+--     IsDark, DarkRow           one all samples of which are zero; that it was found to be one; dark_steps: what is visible of a plane in it
 --     MbsTaking                 macroblocks that are being taken
 --     PlanesTook                the planes begin with the visible samples, stored tight, and are what they were behind them
 -- Assumes nothing.
@@ -326,11 +328,12 @@ calm_as s p e t = rw e at t
 pub in_colour : (f : Form) (p : ℕ) → mono f ≡ false → p < 3 → p < planes f
 in_colour f p e l = rw (planes-colour f e) l
 
--- the macroblock was taken: in monochrome its one block, in colour its three
+-- where a block begins, by the grid
 block_spot : (q : Sequence) (i k : ℕ) → block_place q i k ≡ spot (grid_in q k) i (off_in q.form k)
 unfolding head_place spot
 block_spot q i k = omega arith
 
+-- the macroblock was taken: in monochrome its one block, in colour its three
 pub mono-took : {s : List ℕ} {o e : ℕ} {q : Sequence} {y y' : List ℕ} {r : ℕ} (cb cr : List ℕ) → Fine q → mono q.form ≡ true → (my mx : ℕ) → my < frame_height_in_mbs q → mx < pic_width_in_mbs q
     → BlockTook s o e (block_place q (my * pic_width_in_mbs q + mx) 0) q 0 my mx y y' r
     → MbsTook s o e q (my * pic_width_in_mbs q + mx) (my * pic_width_in_mbs q + mx + 1) y y' cb cb cr cr r
@@ -344,12 +347,6 @@ mono-took {q = q} cb cr g m my mx h k t =
       in_cr = nothing-taken 1 i 1 cr m;
       at = rw z at t.at;
     }
-
--- behind a block stands the next
-pub block_next : {s X : List ℕ} {e r : ℕ} (q : Sequence) (i k : ℕ) → k < 2 → Stands s e X (block_place q i k + block_bytes q.form k) r → Stands s e X (block_place q i (k + 1)) r
-block_next q i zero l g = let z : block_place q i 0 + block_bytes q.form 0 ≡ block_place q i 1 = omega arith in stands_as z g
-block_next q i (suc zero) l g = let z : block_place q i 1 + block_bytes q.form 1 ≡ block_place q i 2 = omega arith in stands_as z g
-block_next q i (suc (suc k)) l g = absurd (omega arith)
 
 pub colour-took : {s : List ℕ} {o e : ℕ} {q : Sequence} {y y' cb cb' cr cr' : List ℕ} {a b r : ℕ} → Fine q → mono q.form ≡ false → (my mx : ℕ) → my < frame_height_in_mbs q
     → mx < pic_width_in_mbs q → BlockTook s o e (block_place q (my * pic_width_in_mbs q + mx) 0) q 0 my mx y y' a
