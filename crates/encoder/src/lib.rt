@@ -30,7 +30,7 @@ pub struct Depths {
 }
 
 // A picture as a host lends it.
-#[derive(Clone, Copy)]
+#[derive(Clone, Copy, Debug, PartialEq, Eq)]
 pub struct Picture<'a> {
     pub width: u32,
     pub height: u32,

@@ -73,7 +73,7 @@ pub enum Refusal {
 }
 
 impl BitDepth {
-    // The bits of a sample, as a number.
+    // The bits of a sample, as a number. (By this name and not by From: it is public, and docs/ANSWERS.md promises it; so of the kind.)
     pub fn num_bits(self) -> u32
         ensures { result ≡ depth_of self }
     {
