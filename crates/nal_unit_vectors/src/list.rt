@@ -47,11 +47,11 @@ fn judge_text(alloc: Global, text: &[u8]) -> Result<Tally, AllocError> {
 }
 
 // Judges the list on standard input; an empty one is wrong, and so is one that is too long.
-pub fn judge_input(rt: &impl Input, alloc: Global) -> io::Result<Tally> {
-    let mut text = Vec::new(alloc);
+pub fn judge_input(rt: &(impl Input + AllocGlobal)) -> io::Result<Tally> {
+    let mut text = Vec::new(rt.alloc());
     rt.reader().take(LIST as u64).read_to_end(&mut text)?;
     if !text.is_empty() && text.len() < LIST {
-        return Ok(judge_text(alloc, &text)?);
+        return Ok(judge_text(rt.alloc(), &text)?);
     }
     Ok(Tally {
         compared: 1,

@@ -12,11 +12,7 @@ use tally::Tally;
 
 fn main(rt: HostRuntime) -> io::Result<()> {
     let mut all = Tally::default();
-    all.tell(
-        &rt,
-        "the escapes of the list",
-        list::judge_input(&rt, rt.alloc())?,
-    )?;
+    all.tell(&rt, "the escapes of the list", list::judge_input(&rt)?)?;
     all.tell(
         &rt,
         "all payloads of six bytes 00, 01, 02, 03, 04 and FF",
