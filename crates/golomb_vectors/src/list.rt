@@ -84,6 +84,7 @@ pub fn judge_text(text: &[u8]) -> Tally {
 }
 
 // Judges the list on standard input; one that is too long is wrong.
+// Each list program has its own limit, its own rule for an empty list and its own judge: one function for all would be no plainer than these lines.
 pub fn judge_input(rt: &(impl Input + Alloc)) -> io::Result<Tally> {
     let mut text = Vec::new(rt.alloc());
     rt.reader().take(LIST as u64).read_to_end(&mut text)?;

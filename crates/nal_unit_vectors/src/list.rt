@@ -47,6 +47,7 @@ fn judge_text(alloc: Global, text: &[u8]) -> Result<Tally, AllocError> {
 }
 
 // Judges the list on standard input; an empty one is wrong, and so is one that is too long.
+// Each list program has its own limit, its own rule for an empty list and its own judge: one function for all would be no plainer than these lines.
 pub fn judge_input(rt: &(impl Input + AllocGlobal)) -> io::Result<Tally> {
     let mut text = Vec::new(rt.alloc());
     rt.reader().take(LIST as u64).read_to_end(&mut text)?;
