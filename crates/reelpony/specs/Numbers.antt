@@ -8,7 +8,7 @@
 --     start_number ..             what a start call answers and leaves, where b says whether its numbers are known; next_number .. the same of a next call
 --     StartsIn, NextsIn           what `reelpony_start` and `reelpony_next` answer and leave, whole
 -- Assumes nothing.
-use Rattle.std.specs.Prelude.{◌≡◌, List, [], ◌∷◌, Bool, cond, ◌&&◌, ◌||◌, ℕ, eqb, get_or}
+use Rattle.std.specs.Prelude.{◌≡◌, Ok, Err, List, [], ◌∷◌, Bool, cond, ◌&&◌, ◌||◌, ℕ, eqb, get_or}
 use Rattle.ycbcr_image.specs.declared.BitDepth.{BitDepth}
 use Rattle.ycbcr_image.specs.declared.BitDepth.TheVariants.{Depth8, Depth12}
 use Rattle.ycbcr_image.specs.declared.Kind.{Kind}
@@ -16,10 +16,8 @@ use Rattle.ycbcr_image.specs.declared.Kind.TheVariants.{Mono, Colour}
 use Rattle.ycbcr_image.specs.declared.Session.{Session}
 use Rattle.ycbcr_image.specs.Form.{chroma_of, depth_of}
 use Rattle.encoder.specs.declared.Depths.{Depths}
-use Rattle.encoder.specs.declared.Encoded.{Encoded}
-use Rattle.encoder.specs.declared.Encoded.TheVariants.{Written, NoRoom, Refused}
 use Rattle.encoder.specs.Shot.{Shot, Lent, lent}
-use Rattle.encoder.specs.Answers.{number_of, length_of, start_of, start_out, next_of, next_out}
+use Rattle.encoder.specs.Answers.{Encoded, number_of, length_of, start_of, start_out, next_of, next_out}
 
 unfoldable pub colour_known : ℕ → Bool
 colour_known c = eqb c 0 || eqb c 1
@@ -81,9 +79,8 @@ words_of s = s.width ∷ s.height ∷ chroma_of s.kind ∷ depth_of s.depth ∷ 
 
 -- only an accepted call changes them
 abbrev pub words_after : Encoded → List ℕ → List ℕ
-words_after (Written s n) ws = words_of s
-words_after (NoRoom n) ws = ws
-words_after (Refused r) ws = ws
+words_after (Ok w) ws = words_of w.session
+words_after (Err e) ws = ws
 
 unfoldable pub start_number : Bool → Shot → List ℕ → ℕ
 start_number b p d = cond b (number_of (start_of p d)) 99

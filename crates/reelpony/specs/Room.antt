@@ -4,20 +4,20 @@
 --     by_shape                  99 and 1 to 5, the numbers of a refusal for what room_number looks at
 --     start_none, next_none     where the planes have one depth the room is 0 exactly where the call is refused with one of them
 -- Then the laws that the code cites. Assumes nothing.
-use Rattle.std.specs.Prelude.{◌≡◌, List, Bool, ◌&&◌, ◌||◌, ℕ, ◌≤◌, length}
+use Rattle.std.specs.Prelude.{◌≡◌, Some, None, List, Bool, ◌&&◌, ◌||◌, ℕ, ◌≤◌, length}
 use Rattle.std.proofs.Math.Path.{refl}
-use Rattle.std.proofs.Common.{sym, ap, true≢false, ne_eqb}
+use Rattle.std.proofs.Common.{sym, ap, ◌∙◌, true≢false, ne_eqb}
 use Rattle.std.proofs.Math.Bool.{true, false, cond}
 use native.Mathlib.Omega.{arith}
 use Rattle.std.proofs.Math.Dec.{eqb}
-use Rattle.ycbcr_image.specs.declared.BitDepth.{BitDepth}
 use Rattle.ycbcr_image.specs.declared.Kind.{Kind}
 use Rattle.ycbcr_image.specs.Sizes.{sequence_of}
 use Rattle.ycbcr_image.specs.Shape.{of_shape, depths-alike}
+use Rattle.encoder.specs.declared.Depths.{Depths}
 use Rattle.encoder.specs.Shot.{image_of}
 use Rattle.encoder.specs.Room.{room_of, Roomed, room_start, room_next}
-use Rattle.reelpony.specs.Numbers.{colour_known, depth_known, known, kind_of, bit_depth_of, Plane, shot_of, held_of, start_number, next_number}
-use Rattle.reelpony.specs.Code.{session}
+use Rattle.reelpony.specs.Numbers.{colour_known, depth_known, known, kind_of, bit_depth_of, depths_of, Plane, shot_of, held_of, start_number, next_number}
+use Rattle.reelpony.specs.Code.{session, form_in, is_formed, is_unknown}
 
 unfoldable pub room_number : ℕ → ℕ → ℕ → ℕ → ℕ
 room_number w h c d = cond (known c d d d) (room_of (sequence_of (session w h (kind_of c) (bit_depth_of d)))) 0
@@ -74,10 +74,16 @@ pub next_none : (ws : List ℕ) (w h c : ℕ) (y cb cr : Plane) (d : List ℕ) �
 unfolding next_number
 next_none ws w h c y cb cr d = none w h c y cb cr d (room_next (held_of ws) (shot_of w h c y cb cr) d)
 
-pub room_unknown : (w h c d : ℕ) {a : Bool} → a ≡ known c d d d → a ≡ false → 0 ≡ room_number w h c d
+pub room_unknown : (w h c d : ℕ) → None ≡ form_in c d d d → 0 ≡ room_number w h c d
 unfolding room_number
-room_unknown w h c d f e = rw (← f, e) refl
+room_unknown w h c d e = rw (is_unknown c d d d e) refl
 
-pub room_known : (w h c d : ℕ) {a : Bool} {k : Kind} {b : BitDepth} {n : ℕ} → a ≡ known c d d d → a ≡ true → k ≡ kind_of c → b ≡ bit_depth_of d → n ≡ room_of (sequence_of (session w h k b)) → n ≡ room_number w h c d
+pub room_known : (w h c d : ℕ) {k : Kind} {ds : Depths} {n : ℕ} → Some (k, ds) ≡ form_in c d d d → n ≡ room_of (sequence_of (session w h k ds.y)) → n ≡ room_number w h c d
 unfolding room_number
-room_known w h c d f e k b n = rw (← f, e) (rw (k, b) at n)
+room_known w h c d e n =
+    let f = is_formed c d d d e in
+    rw f.is_known (rw (f.kind, ap (λ (x : Depths). x.y) f.depths ∙ one (eqb c 0)) at n)
+  where
+    one : (b : Bool) → (cond b (depths_of d d d) (depths_of d d d)).y ≡ bit_depth_of d
+    one true = refl
+    one false = refl

@@ -7,82 +7,81 @@ pub mod read;
 
 ghost use Rattle.std.specs.Prelude.{◌≡◌};
 ghost use Rattle.encoder.specs.Answers.{number_of, length_of};
-ghost use Rattle.reelpony.specs.Numbers.{colour_known, depth_known, known, kind_of, bit_depth_of, depths_of, plane, picture_in, held_of, words_of, words_after, StartsIn, NextsIn};
+ghost use Rattle.reelpony.specs.Numbers.{plane, picture_in, held_of, words_of, words_after, StartsIn, NextsIn};
+ghost use Rattle.reelpony.specs.Code.{kind_in, depth_in, form_in, session_in};
 ghost use Rattle.reelpony.specs.Room.{room_number};
 
-use encoder::{Depths, Encoded};
-use slice::Strides;
+use encoder::{Depths, EncodeError, Picture, Written};
+use slice::{Planes, Strides};
 use ycbcr_image::{BitDepth, Kind, Session};
 
-// Whether a number is a colour.
-fn colour_known(c: u32) -> bool
-    ensures { result ≡ colour_known c }
+// The kind of a colour; None for a number that is none.
+#[tactic(auto, unfolding(crate::specs::Numbers::colour_known, crate::specs::Numbers::kind_of))]
+fn kind_of(colour: u32) -> Option<Kind>
+    ensures { result ≡ kind_in colour }
 {
-    (c == 0) | (c == 1)
-}
-
-// Whether a number is a depth.
-fn depth_known(d: u32) -> bool
-    ensures { result ≡ depth_known d }
-{
-    (d == 8) | (d == 12)
-}
-
-// Whether a call's colour is one, and the depths of the planes that are looked at.
-fn all_known(colour: u32, y: u32, cb: u32, cr: u32) -> bool
-    ensures { result ≡ known colour y cb cr }
-{
-    colour_known(colour) & (depth_known(y) & ((colour == 0) | (depth_known(cb) & depth_known(cr))))
-}
-
-// The kind of a colour.
-fn kind_of(c: u32) -> Kind
-    ensures { result ≡ kind_of c }
-{
-    if c == 0 {
-        return Kind::Mono;
-    }
-    Kind::Colour
-}
-
-// The depth of a number of bits.
-fn depth_of(d: u32) -> BitDepth
-    ensures { result ≡ bit_depth_of d }
-{
-    if d == 8 {
-        return BitDepth::Depth8;
-    }
-    BitDepth::Depth12
-}
-
-// The depths of a call's planes.
-fn depths_of(y: u32, cb: u32, cr: u32) -> Depths
-    ensures { result ≡ depths_of y cb cr }
-{
-    Depths {
-        y: depth_of(y),
-        cb: depth_of(cb),
-        cr: depth_of(cr),
+    match colour {
+        0 => Some(Kind::Mono),
+        1 => Some(Kind::Colour),
+        _ => None,
     }
 }
 
-// The session that eight numbers say.
+// The depth of a number of bits; None for a number that is none.
+#[tactic(auto, unfolding(crate::specs::Numbers::depth_known, crate::specs::Numbers::bit_depth_of))]
+fn depth_of(bits: u32) -> Option<BitDepth>
+    ensures { result ≡ depth_in bits }
+{
+    match bits {
+        8 => Some(BitDepth::Depth8),
+        12 => Some(BitDepth::Depth12),
+        _ => None,
+    }
+}
+
+// The kind and the depths that a call's numbers say; None where one that is looked at says none. Of mono the depths of Cb and Cr are not looked at.
+fn form_of(colour: u32, y: u32, cb: u32, cr: u32) -> Option<(Kind, Depths)>
+    ensures { result ≡ form_in colour y cb cr }
+{
+    let kind = kind_of(colour)?;
+    let y = depth_of(y)?;
+    let depths = match kind {
+        Kind::Mono => Depths { y, cb: y, cr: y },
+        Kind::Colour => Depths {
+            y,
+            cb: depth_of(cb)?,
+            cr: depth_of(cr)?,
+        },
+    };
+    Some((kind, depths))
+}
+
+// The session of a size, a colour and a number of bits; None where one of the two last is none.
+fn session_of(width: u32, height: u32, colour: u32, bits: u32) -> Option<Session>
+    ensures { result ≡ session_in width height colour bits }
+{
+    let kind = kind_of(colour)?;
+    let depth = depth_of(bits)?;
+    Some(Session {
+        width,
+        height,
+        kind,
+        depth,
+    })
+}
+
+// The session that eight numbers say; one of no size, which no picture has, where they say none.
 fn held(session: &[u32; 8]) -> Session
     ensures { result ≡ held_of session.now }
 {
-    if colour_known(session[2]) & depth_known(session[3]) {
-        return Session {
-            width: session[0],
-            height: session[1],
-            kind: kind_of(session[2]),
-            depth: depth_of(session[3]),
-        };
-    }
-    Session {
-        width: 0,
-        height: 0,
-        kind: Kind::Mono,
-        depth: BitDepth::Depth8,
+    match session_of(session[0], session[1], session[2], session[3]) {
+        Some(s) => s,
+        None => Session {
+            width: 0,
+            height: 0,
+            kind: Kind::Mono,
+            depth: BitDepth::Depth8,
+        },
     }
 }
 
@@ -90,43 +89,39 @@ fn held(session: &[u32; 8]) -> Session
 fn words_of(s: Session) -> [u32; 8]
     ensures { result ≡ words_of s }
 {
-    let kind = s.kind;
-    let depth = s.depth;
-    let colour = ycbcr_image::chroma_format_idc(kind);
-    let bits = ycbcr_image::num_bits(depth);
+    let colour = s.kind.chroma_format_idc();
+    let bits = s.depth.num_bits();
     [s.width, s.height, colour, bits, 0, 0, 0, 0]
 }
 
 // Keeps the session that an answer leaves.
-fn keep_after(a: Encoded, session: &mut [u32; 8])
+fn keep_after(a: Result<Written, EncodeError>, session: &mut [u32; 8])
     ensures { session.new ≡ words_after a session.old }
 {
-    match a {
-        Encoded::Written(s, n) => *session = words_of(s),
-        Encoded::NoRoom(n) => (),
-        Encoded::Refused(r) => (),
+    if let Ok(written) = a {
+        *session = words_of(written.session);
     }
 }
 
 // The number of an answer.
-fn number(a: Encoded) -> u32
+fn number(a: Result<Written, EncodeError>) -> u32
     ensures { result ≡ number_of a }
 {
     match a {
-        Encoded::Written(s, n) => 0,
-        Encoded::NoRoom(n) => 9,
-        Encoded::Refused(r) => r,
+        Ok(_) => 0,
+        Err(EncodeError::NoRoom(_)) => 9,
+        Err(EncodeError::Refused(r)) => r.number(),
     }
 }
 
-// Its length.
-fn length_in(a: Encoded) -> usize
+// Its length: what was written, or what is needed.
+fn length_in(a: Result<Written, EncodeError>) -> usize
     ensures { result ≡ length_of a }
 {
     match a {
-        Encoded::Written(s, n) => n,
-        Encoded::NoRoom(n) => n,
-        Encoded::Refused(r) => 0,
+        Ok(w) => w.length,
+        Err(EncodeError::NoRoom(n)) => n,
+        Err(EncodeError::Refused(_)) => 0,
     }
 }
 
@@ -150,27 +145,24 @@ pub fn reelpony_start(
 ) -> u32
     ensures { StartsIn (picture_in width height colour (plane y.now y_stride y_depth) (plane cb.now cb_stride cb_depth) (plane cr.now cr_stride cr_depth)) out.old session.old result length.new out.new session.new }
 {
-    if !all_known(colour, y_depth, cb_depth, cr_depth) {
+    let Some((kind, depths)) = form_of(colour, y_depth, cb_depth, cr_depth) else {
         *length = 0;
         return 99;
-    }
+    };
     let strides = Strides {
         y: y_stride,
         cb: cb_stride,
         cr: cr_stride,
     };
-    let depths = depths_of(y_depth, cb_depth, cr_depth);
-    let a = encoder::start(
+    let planes = Planes { y, cb, cr, strides };
+    let picture = Picture {
         width,
         height,
-        kind_of(colour),
-        y,
-        cb,
-        cr,
-        strides,
+        kind,
+        planes,
         depths,
-        out,
-    );
+    };
+    let a = encoder::start(picture, out);
     keep_after(a, session);
     *length = length_in(a) as u64;
     number(a)
@@ -196,28 +188,24 @@ pub fn reelpony_next(
 ) -> u32
     ensures { NextsIn (picture_in width height colour (plane y.now y_stride y_depth) (plane cb.now cb_stride cb_depth) (plane cr.now cr_stride cr_depth)) out.old session.old result length.new out.new session.new }
 {
-    if !all_known(colour, y_depth, cb_depth, cr_depth) {
+    let Some((kind, depths)) = form_of(colour, y_depth, cb_depth, cr_depth) else {
         *length = 0;
         return 99;
-    }
+    };
     let strides = Strides {
         y: y_stride,
         cb: cb_stride,
         cr: cr_stride,
     };
-    let depths = depths_of(y_depth, cb_depth, cr_depth);
-    let a = encoder::next(
-        held(&*session),
+    let planes = Planes { y, cb, cr, strides };
+    let picture = Picture {
         width,
         height,
-        kind_of(colour),
-        y,
-        cb,
-        cr,
-        strides,
+        kind,
+        planes,
         depths,
-        out,
-    );
+    };
+    let a = encoder::next(held(&*session), picture, out);
     *length = length_in(a) as u64;
     number(a)
 }
@@ -227,14 +215,14 @@ pub fn reelpony_next(
 pub fn reelpony_room(width: u32, height: u32, colour: u32, depth: u32) -> u64
     ensures { result ≡ room_number width height colour depth }
 {
-    if !all_known(colour, depth, depth, depth) {
+    let Some((kind, depths)) = form_of(colour, depth, depth, depth) else {
         return 0;
-    }
+    };
     let s = Session {
-        width: width,
-        height: height,
-        kind: kind_of(colour),
-        depth: depth_of(depth),
+        width,
+        height,
+        kind,
+        depth: depths.y,
     };
     encoder::room(s) as u64
 }

@@ -1,11 +1,10 @@
 -- `reelpony::reelpony_room` meets its contract: the numbers are looked at first, then the writer is asked. Assumes nothing.
-use borrow.Author.Tests.{not-true, not-false}
+use Rattle.std.proofs.Common.{sym, ◌∙◌}
 use Rattle.reelpony.specs.Room.{room_unknown, room_known}
 use Rattle.reelpony.proofs.reelpony_room.Goals as goal
 
-pub returns-then-not-all_known : goal.returns-then-not-all_known
-returns-then-not-all_known c = room_unknown _ _ _ _ c.all_known.ensures (not-true _ c.if-not-all_known.true-raw)
+pub returns-in_default : goal.returns-in_default
+returns-in_default c = let a = c.args in room_unknown a.width a.height a.colour a.depth (sym c.in_default.is ∙ c.form_of.ensures)
 
 pub returns : goal.returns
-returns c =
-    room_known _ _ _ _ c.all_known.ensures (not-false _ c.if-not-all_known.false-raw) c.kind_of.ensures c.depth_of.ensures c.room.ensures
+returns c = let a = c.args in room_known a.width a.height a.colour a.depth (sym c.in-Some.is ∙ c.form_of.ensures) c.room.ensures

@@ -1,20 +1,24 @@
--- `reelpony::read::session_in` meets its contract. Assumes nothing.
-use Rattle.std.proofs.Common.{arith}
-use Rattle.reelpony.specs.ReadingCode.{sized-has, session_as}
+-- `reelpony::read::session_in` meets its contract: each word is asked in turn. Assumes nothing.
+use Rattle.std.proofs.Common.{refl}
+use Rattle.reelpony.specs.ReadingCode.{says-wide, says-high, says-colour, says-bits, says}
 use Rattle.reelpony.proofs.read.session_in.Goals as goal
 
-pub overflow_cast-result : goal.overflow_cast-result
-overflow_cast-result c = let g = sized-has c.args.ws.now c.requires in omega (arith, g.wide, g.high, g.colour, g.depth_most)
+pub returns-in_err-width : goal.returns-in_err-width
+returns-in_err-width c = says-wide c.args.ws.now c.from_residual.ensures (c.short.ensures.none (rw c.in_err-width.was refl))
 
-pub overflow_cast-result-2 : goal.overflow_cast-result-2
-overflow_cast-result-2 c = let g = sized-has c.args.ws.now c.requires in omega (arith, g.wide, g.high, g.colour, g.depth_most)
+pub returns-in_err-height : goal.returns-in_err-height
+returns-in_err-height c = says-high c.args.ws.now c.from_residual-in_err-height.ensures (c.short-2.ensures.none (rw c.in_err-height.was refl))
 
-pub overflow_cast-ws : goal.overflow_cast-ws
-overflow_cast-ws c = let g = sized-has c.args.ws.now c.requires in omega (arith, g.wide, g.high, g.colour, g.depth_most)
+pub returns-in_err-colour : goal.returns-in_err-colour
+returns-in_err-colour c = says-colour c.args.ws.now c.from_residual-in_err-colour.ensures (c.short-3.ensures.none (rw c.in_err-colour.was refl))
 
-pub overflow_cast-ws-2 : goal.overflow_cast-ws-2
-overflow_cast-ws-2 c = let g = sized-has c.args.ws.now c.requires in omega (arith, g.wide, g.high, g.colour, g.depth_most)
+pub returns-in_err-bits : goal.returns-in_err-bits
+returns-in_err-bits c = says-bits c.args.ws.now c.from_residual-in_err-bits.ensures (c.short-4.ensures.none (rw c.in_err-bits.was refl))
 
 pub returns : goal.returns
 returns c =
-    session_as c.args.ws.now (sized-has c.args.ws.now c.requires) c.kind_of.ensures c.depth_of.ensures
+    let w = rw c.in_ok-width.was at c.short.ensures.some in
+    let h = rw c.in_ok-height.was at c.short-2.ensures.some in
+    let k = rw c.in_ok-colour.was at c.short-3.ensures.some in
+    let d = rw c.in_ok-bits.was at c.short-4.ensures.some in
+    says c.args.ws.now (rw (w, h, k, d) at c.session_of.ensures)
