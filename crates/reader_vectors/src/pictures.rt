@@ -1,218 +1,168 @@
 // The refusals 17 to 19, of the pictures of plain.rt, and pictures that are accepted.
-use crate::bytes::{flip, part, put_all};
-use crate::call::{Calls, Lent, from, judge, lend, refuse};
-use crate::count::{Tally, none};
-use crate::plain::{COLOUR, ROOM, WIDE, put_colour, put_wide};
-use crate::state::{at, both, colour8, mono8, picture, refused};
+use crate::judge::{ALL, Case, Judge, NO_BYTES, NONE, Planes, Wanted};
+use crate::plain::{COLOUR, WIDE, colour, flip, put, wide};
+use crate::state::{COLOUR8, MONO8, at, both};
+use reader::{Answer, Reader, Refusal};
 use std::io;
+use std::ops::Range;
+use tally::Tally;
 
-// Has the first `n` bytes refused where `bytes` stand at `place`, with all of the planes lent, and with none: 17 and 18 go before 19.
-fn refuse_with(
-    rt: &impl Print,
-    t: Tally,
-    name: &[u8],
-    place: usize,
-    bytes: &[u8],
-    n: usize,
-    number: u32,
-) -> io::Result<Tally> {
-    let mut take = [0x10u8; ROOM];
-    put_wide(&mut take);
-    put_all(&mut take, place, bytes);
-    let cut = part(&take, 0, n);
-    let sets = both(mono8(17, 16));
-    let t = refuse(rt, t, name, cut, at(22, sets), number, 26, n)?;
-    let c = judge(
-        rt,
-        from(t, at(22, sets)),
-        name,
-        cut,
-        lend(0, 0, 0),
-        refused(number, 26),
-        at(n, sets),
-        b"",
-        b"",
-        b"",
-    )?;
-    Ok(c.tally)
+// The room for a take that is longer than the one it is made of.
+const ROOM: usize = 600;
+
+impl<R: Print> Judge<'_, R> {
+    // Has the first `n` bytes refused where `bytes` stand at `place`, and bytes 10 hex behind the take, with all of the planes lent, and with none: 17 and 18 go before 19.
+    fn refuse_with(
+        &mut self,
+        name: &str,
+        place: usize,
+        bytes: &[u8],
+        n: usize,
+        refusal: Refusal,
+    ) -> io::Result<()> {
+        let mut take = [0x10; ROOM];
+        put(&mut take, 0, &wide());
+        put(&mut take, place, bytes);
+        let end = n.min(take.len());
+        let sets = both(MONO8.size(17, 16));
+        let mut case = Case::new(name, &take[..end], at(22, sets));
+        self.refuse(case, refusal, 26, n)?;
+        let wanted = Wanted {
+            answer: Answer::Refused(refusal, 26),
+            then: at(n, sets),
+            planes: NO_BYTES,
+        };
+        self.read(&mut case, NONE, wanted)
+    }
+
+    // Has the picture refused with 18 where the bit number `k` is changed.
+    fn refuse_bit(&mut self, name: &str, k: usize) -> io::Result<()> {
+        let mut take = wide();
+        flip(&mut take, k);
+        let case = Case::new(name, &take, at(22, both(MONO8.size(17, 16))));
+        self.refuse(case, Refusal::PictureForm, 26, WIDE)
+    }
+
+    // The same of each of these bits.
+    fn refuse_bits(&mut self, name: &str, bits: Range<usize>) -> io::Result<()> {
+        for k in bits {
+            self.refuse_bit(name, k)?;
+        }
+        Ok(())
+    }
 }
 
 // 17: a payload that is too short; 18 is not looked at.
 pub fn short(rt: &impl Print) -> io::Result<Tally> {
-    let t = refuse_with(rt, none(), b"17, a sample missing", 544, b"\x80", 545, 17)?;
-    let t = refuse_with(rt, t, b"17, the last byte missing", 0, b"", 545, 17)?;
-    let t = refuse_with(rt, t, b"17, the last byte 00", 545, b"\x00", 546, 17)?;
-    let t = refuse_with(rt, t, b"17, header alone", 0, b"", 27, 17)?;
-    let t = refuse_with(rt, t, b"17, the slice header alone", 0, b"", 31, 17)?;
-    let t = refuse_with(rt, t, b"17, another slice header too", 27, b"\x89", 545, 17)?;
-    let t = refuse_with(
-        rt,
-        t,
-        b"17, two zeros for three bytes",
+    let mut judge = Judge::new(rt);
+    let short = Refusal::PictureShort;
+    judge.refuse_with("17, a sample missing", 544, b"\x80", 545, short)?;
+    judge.refuse_with("17, the last byte missing", 0, b"", 545, short)?;
+    judge.refuse_with("17, the last byte 00", 545, b"\x00", 546, short)?;
+    judge.refuse_with("17, header alone", 0, b"", 27, short)?;
+    judge.refuse_with("17, the slice header alone", 0, b"", 31, short)?;
+    judge.refuse_with("17, another slice header too", 27, b"\x89", 545, short)?;
+    judge.refuse_with(
+        "17, two zeros for three bytes",
         543,
         b"\x00\x00\x03",
         546,
-        17,
+        short,
     )?;
-    refuse(
-        rt,
-        t,
-        b"17, of 1 by 1",
-        b"\x00\x00\x01\x25\x88\x84\x28\x68\x80",
-        at(0, both(mono8(1, 1))),
-        17,
-        3,
-        9,
-    )
-}
-
-// Has the picture refused with 18 where the bit number `k` is changed.
-fn refuse_bit(rt: &impl Print, t: Tally, name: &[u8], k: usize) -> io::Result<Tally> {
-    let mut take = [0x10u8; ROOM];
-    put_wide(&mut take);
-    flip(&mut take, k);
-    refuse(
-        rt,
-        t,
-        name,
-        part(&take, 0, WIDE),
-        at(22, both(mono8(17, 16))),
-        18,
-        26,
-        WIDE,
-    )
-}
-
-// The same of each bit from the number `start` to `stop`.
-fn refuse_bits(
-    rt: &impl Print,
-    t: Tally,
-    name: &[u8],
-    start: usize,
-    stop: usize,
-) -> io::Result<Tally> {
-    let mut u = t;
-    let mut k = start;
-    while k < stop {
-        u = refuse_bit(rt, u, name, k)?;
-        k += 1;
-    }
-    Ok(u)
+    let one = b"\x00\x00\x01\x25\x88\x84\x28\x68\x80";
+    let held = both(MONO8.size(1, 1));
+    judge.refuse(Case::new("17, of 1 by 1", one, at(0, held)), short, 3, 9)?;
+    Ok(judge.tally)
 }
 
 // 18: a payload that is longer, or not of a picture's form.
 pub fn formless(rt: &impl Print) -> io::Result<Tally> {
-    let t = refuse_with(rt, none(), b"18, a last byte more", 546, b"\x80", 547, 18)?;
-    let t = refuse_with(rt, t, b"18, a sample more", 545, b"\x10\x80", 547, 18)?;
-    let t = refuse_with(rt, t, b"18, two zeros more", 546, b"\x00\x00\x03", 549, 18)?;
-    let t = refuse_with(
-        rt,
-        t,
-        b"18, two zeros for two bytes",
+    let mut judge = Judge::new(rt);
+    let form = Refusal::PictureForm;
+    judge.refuse_with("18, a last byte more", 546, b"\x80", 547, form)?;
+    judge.refuse_with("18, a sample more", 545, b"\x10\x80", 547, form)?;
+    judge.refuse_with("18, two zeros more", 546, b"\x00\x00\x03", 549, form)?;
+    judge.refuse_with(
+        "18, two zeros for two bytes",
         544,
         b"\x00\x00\x03",
         547,
-        18,
+        form,
     )?;
-    let t = refuse_with(rt, t, b"18, a last byte 81", 545, b"\x81", 546, 18)?;
-    let t = refuse_with(rt, t, b"18, a last byte 40", 545, b"\x40", 546, 18)?;
-    let t = refuse_with(
-        rt,
-        t,
-        b"18, a sample for the last byte",
-        545,
-        b"\x10",
-        546,
-        18,
-    )?;
-    let t = refuse_with(rt, t, b"18, a head for the first", 29, b"\x0D\x00", 546, 18)?;
-    let t = refuse_with(rt, t, b"18, a sample for a head", 287, b"\x10\x10", 546, 18)?;
-    let t = refuse_bits(rt, t, b"18, a bit of the slice header", 216, 248)?;
-    refuse_bits(rt, t, b"18, a bit of a macroblock's head", 2296, 2312)
+    judge.refuse_with("18, a last byte 81", 545, b"\x81", 546, form)?;
+    judge.refuse_with("18, a last byte 40", 545, b"\x40", 546, form)?;
+    judge.refuse_with("18, a sample for the last byte", 545, b"\x10", 546, form)?;
+    judge.refuse_with("18, a head for the first", 29, b"\x0D\x00", 546, form)?;
+    judge.refuse_with("18, a sample for a head", 287, b"\x10\x10", 546, form)?;
+    judge.refuse_bits("18, a bit of the slice header", 216..248)?;
+    judge.refuse_bits("18, a bit of a macroblock's head", 2296..2312)?;
+    Ok(judge.tally)
 }
 
-// A call with the picture in colour, that answers 19 and stays.
-fn keep(rt: &impl Print, c: Calls, name: &[u8], take: &[u8], lent: Lent) -> io::Result<Calls> {
-    let reader = at(20, both(colour8(16, 16)));
-    judge(
-        rt,
-        c,
-        name,
-        take,
-        lent,
-        refused(19, 24),
-        reader,
-        b"",
-        b"",
-        b"",
-    )
+// What a call answers that is refused with 19, at `offset`, and stays.
+fn kept(start: Reader, offset: usize) -> Wanted<'static> {
+    Wanted {
+        answer: Answer::Refused(Refusal::Planes, offset),
+        then: start,
+        planes: NO_BYTES,
+    }
 }
 
 // 19: planes that are a byte short and empty, each call made where the one before it stayed; then the call with just enough.
-fn colour_planes(rt: &impl Print, t: Tally, take: &[u8]) -> io::Result<Tally> {
-    let y = [0x10u8; 256];
-    let cb = [0x20u8; 64];
-    let cr = [0x30u8; 64];
-    let sets = both(colour8(16, 16));
-    let c = from(t, at(20, sets));
-    let c = keep(rt, c, b"19, Y a byte short", take, lend(255, 64, 64))?;
-    let c = keep(rt, c, b"19, Cb a byte short", take, lend(256, 63, 64))?;
-    let c = keep(rt, c, b"19, Cr a byte short", take, lend(256, 64, 63))?;
-    let c = keep(rt, c, b"19, Y alone", take, lend(256, 0, 0))?;
-    let c = keep(rt, c, b"19, no plane", take, lend(0, 0, 0))?;
-    let c = judge(
-        rt,
-        c,
-        b"19, then enough",
-        take,
-        lend(256, 64, 64),
-        picture(24),
-        at(COLOUR, sets),
-        &y,
-        &cb,
-        &cr,
-    )?;
-    Ok(c.tally)
+fn colour_planes(judge: &mut Judge<'_, impl Print>, take: &[u8]) -> io::Result<()> {
+    let sets = both(COLOUR8.size(16, 16));
+    let start = at(20, sets);
+    let kept = kept(start, 24);
+    let enough = Planes {
+        y: 256,
+        cb: 64,
+        cr: 64,
+    };
+    let mut case = Case::new("19, Y a byte short", take, start);
+    judge.read(&mut case, Planes { y: 255, ..enough }, kept)?;
+    case.name = "19, Cb a byte short";
+    judge.read(&mut case, Planes { cb: 63, ..enough }, kept)?;
+    case.name = "19, Cr a byte short";
+    judge.read(&mut case, Planes { cr: 63, ..enough }, kept)?;
+    case.name = "19, Y alone";
+    judge.read(&mut case, Planes { y: 256, ..NONE }, kept)?;
+    case.name = "19, no plane";
+    judge.read(&mut case, NONE, kept)?;
+    case.name = "19, then enough";
+    let wanted = Wanted {
+        answer: Answer::Picture(24),
+        then: at(COLOUR, sets),
+        planes: Planes {
+            y: &[0x10; 256],
+            cb: &[0x20; 64],
+            cr: &[0x30; 64],
+        },
+    };
+    judge.read(&mut case, enough, wanted)
 }
 
 // The same in mono, which has no use for the other planes. Of its 32 columns 17 are visible.
-fn mono_planes(rt: &impl Print, t: Tally, take: &[u8]) -> io::Result<Tally> {
-    let y = [0x10u8; 272];
-    let sets = both(mono8(17, 16));
-    let c = from(t, at(22, sets));
-    let c = judge(
-        rt,
-        c,
-        b"19, mono, a byte short",
-        take,
-        lend(271, 1000, 1000),
-        refused(19, 26),
-        at(22, sets),
-        b"",
-        b"",
-        b"",
-    )?;
-    let c = judge(
-        rt,
-        c,
-        b"19, mono, then enough",
-        take,
-        lend(272, 0, 0),
-        picture(26),
-        at(WIDE, sets),
-        &y,
-        b"",
-        b"",
-    )?;
-    Ok(c.tally)
+fn mono_planes(judge: &mut Judge<'_, impl Print>, take: &[u8]) -> io::Result<()> {
+    let sets = both(MONO8.size(17, 16));
+    let start = at(22, sets);
+    let mut case = Case::new("19, mono, a byte short", take, start);
+    judge.read(&mut case, Planes { y: 271, ..ALL }, kept(start, 26))?;
+    case.name = "19, mono, then enough";
+    let wanted = Wanted {
+        answer: Answer::Picture(26),
+        then: at(WIDE, sets),
+        planes: Planes {
+            y: &[0x10; 272],
+            ..NO_BYTES
+        },
+    };
+    judge.read(&mut case, Planes { y: 272, ..NONE }, wanted)
 }
 
 // Both.
 pub fn planes(rt: &impl Print) -> io::Result<Tally> {
-    let mut colour = [0x10u8; ROOM];
-    put_colour(&mut colour);
-    let t = colour_planes(rt, none(), part(&colour, 0, COLOUR))?;
-    let mut mono = [0x10u8; ROOM];
-    put_wide(&mut mono);
-    mono_planes(rt, t, part(&mono, 0, WIDE))
+    let mut judge = Judge::new(rt);
+    colour_planes(&mut judge, &colour())?;
+    mono_planes(&mut judge, &wide())?;
+    Ok(judge.tally)
 }

@@ -1,89 +1,66 @@
-// The bytes of planes, drawn from a seed, and their visible rows.
-use crate::bytes::{get, part};
-use crate::call::PLANE;
-use std::num::wrapping_add_usize;
+// The bytes of planes, drawn from a seed.
+use std::alloc::{AllocError, Global};
 
-// How many bytes the planes of a picture have, all together.
-pub const DRAWN: usize = 3000;
-
-// The generator's next state (xorshift, 64 bits).
-fn next(x: u64) -> u64 {
-    let a = x ^ (x << 13);
-    let b = a ^ (a >> 7);
-    b ^ (b << 17)
+// What the bytes are: zeros; none of them 0; 00 to 03 only; one in four of those.
+#[derive(Clone, Copy, Debug, PartialEq, Eq)]
+pub enum Content {
+    Zeros,
+    None,
+    Low,
+    Quarter,
 }
 
-// The byte of a draw. Content 0 is zeros; 1 has none; 2 has bytes 00 to 03 only; any other has one in four of those.
-fn byte(content: u64, y: u64) -> u8 {
-    if content == 0 {
-        return 0;
+impl Content {
+    // The content of a number: the four in turn.
+    pub fn numbered(number: u64) -> Self {
+        match number % 4 {
+            0 => Content::Zeros,
+            1 => Content::None,
+            2 => Content::Low,
+            _ => Content::Quarter,
+        }
     }
-    if content == 1 {
-        return (y % 255 + 1) as u8;
-    }
-    if content == 2 || y % 4 == 0 {
-        return (y / 4 % 4) as u8;
-    }
-    (y / 4 % 256) as u8
-}
 
-// Draws all bytes of the planes.
-pub fn draw(planes: &mut [u8; DRAWN], content: u64, seed: u64) {
-    let mut x = seed;
-    let mut i = 0;
-    while i < DRAWN {
-        x = next(x);
-        planes[i] = byte(content, x >> 24);
-        i += 1;
+    // The byte of a draw.
+    fn byte(self, y: u64) -> u8 {
+        match self {
+            Content::Zeros => 0,
+            Content::None => (y % 255 + 1) as u8,
+            Content::Quarter if y % 4 != 0 => (y / 4 % 256) as u8,
+            _ => (y / 4 % 4) as u8,
+        }
     }
 }
 
-// The bytes drawn from `from` to `to`.
-pub fn plane(planes: &[u8; DRAWN], from: usize, to: usize) -> &[u8] {
-    part(planes, from, to)
+// The generator (xorshift, 64 bits), and what it draws.
+#[derive(Clone, Copy, Debug, PartialEq, Eq)]
+pub struct Generator {
+    state: u64,
+    content: Content,
 }
 
-// Where a visible byte stands in a lent plane: its column, in bytes, and its place.
-#[derive(Drop)]
-struct Spot {
-    column: usize,
-    place: usize,
-}
+impl Generator {
+    pub fn new(content: Content, seed: u64) -> Self {
+        Generator {
+            state: seed,
+            content,
+        }
+    }
 
-// The next one: behind a row of `row` visible bytes, `skip` bytes are passed.
-fn behind(s: Spot, row: usize, skip: usize) -> Spot {
-    let column = wrapping_add_usize(s.column, 1);
-    let place = wrapping_add_usize(s.place, 1);
-    if column < row {
-        return Spot {
-            column: column,
-            place: place,
-        };
+    // The next byte.
+    fn draw(&mut self) -> u8 {
+        let a = self.state ^ (self.state << 13);
+        let b = a ^ (a >> 7);
+        self.state = b ^ (b << 17);
+        self.content.byte(self.state >> 24)
     }
-    Spot {
-        column: 0,
-        place: wrapping_add_usize(place, skip),
-    }
-}
 
-// Writes the visible bytes of a lent plane, row behind row: `n` bytes, `row` in each row and `skip` between two rows.
-pub fn put_tight(out: &mut [u8; PLANE], lent: &[u8], row: usize, skip: usize, n: usize) {
-    if PLANE < n {
-        return;
+    // The next `n` bytes.
+    pub fn plane(&mut self, alloc: Global, n: usize) -> Result<Vec<u8>, AllocError> {
+        let mut plane = vec![in alloc; 0u8; n]?;
+        for b in plane.iter_mut() {
+            *b = self.draw();
+        }
+        Ok(plane)
     }
-    let mut s = Spot {
-        column: 0,
-        place: 0,
-    };
-    let mut j = 0;
-    while j < n {
-        out[j] = get(lent, s.place);
-        s = behind(s, row, skip);
-        j += 1;
-    }
-}
-
-// The first `n` of them.
-pub fn tight(out: &[u8; PLANE], n: usize) -> &[u8] {
-    part(out, 0, n)
 }
