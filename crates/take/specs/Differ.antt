@@ -2,7 +2,7 @@
 -- program gives the number behind its name, as read off its line. (Those of the C functions: reelpony, Differ;
 -- the C functions of the codes are here, in golomb's words, of which reelpony's are short names.)
 -- Assumes nothing.
-use Rattle.std.specs.Prelude.{◌≡◌, refl, [], ◌∷◌, true, false, ℕ, replicate, get_or, pos}
+use Rattle.std.specs.Prelude.{◌≡◌, refl, None, [], ◌∷◌, true, false, ℕ, replicate, get_or, pos}
 use Rattle.std.proofs.Common.{ap, arith}
 use Rattle.std.proofs.lemmas.List.{length-replicate}
 use Rattle.lists.specs.Part.{part}
@@ -10,7 +10,7 @@ use Rattle.bits.specs.Bits.{low_bits, bits_of, value_from, bit_count, room_for, 
 use Rattle.golomb.specs.Code.{digits_in, num_bits, ue}
 use Rattle.golomb.specs.Signed.{mapped, unmapped, se}
 use Rattle.golomb.specs.Read.{leading_zero_bits, code_bits, code_num, whole}
-use Rattle.golomb.specs.Answers.{written_place, write_of, has_ue, has_se, ue_number, ue_place, se_read, se_place, read_ue, read_se}
+use Rattle.golomb.specs.Answers.{written_place, write_of, has_ue, has_se, read_answer, read_number, read_place, read_ue, read_se}
 use Rattle.nal_unit.specs.StartCode.{code, next}
 use Rattle.nal_unit.specs.Walk.{blank, lay, trim, behind, meet}
 use Rattle.nal_unit.specs.Calls.{at, turned, turn}
@@ -29,9 +29,9 @@ use Rattle.slice.specs.Layout.{block_row, block, mb, mb_at, head, macroblock, sl
 use Rattle.slice.specs.Header.{header_is}
 use Rattle.encoder.specs.Shot.{Shot, lent, image_of, sequence_in}
 use Rattle.encoder.specs.Units.{picture_unit, next_bytes}
+use Rattle.ycbcr_image.specs.Numbers.{named}
 use Rattle.encoder.specs.Answers.{number_of, length_of, answer_of, out_of, start_of, next_of, next_out}
 use Rattle.encoder.specs.Room.{picture_most, room_of}
-use Rattle.reader.specs.declared.HeldSps.TheVariants.{Missing}
 use Rattle.reader.specs.declared.Reader.{Reader}
 use Rattle.reader.specs.Judge.{nothing, possible, counted, unit_verdict, judge}
 use Rattle.reader.specs.Read.{refused_at, told, read_of, plane_length}
@@ -48,7 +48,7 @@ striped = record { width = 16; height = 16; kind = Colour; y = lent (replicate 2
 
 -- a reader at the place p that holds nothing
 abbrev reader : ℕ → Reader
-reader p = record { place = p; sets = record { sps = Missing; pps = false } }
+reader p = record { place = p; sets = record { sps = None; pps = false } }
 
 pub record Differ : Type 0 where
   -- start: "the length without the parameter sets", 266
@@ -73,7 +73,7 @@ pub record Differ : Type 0 where
   pub read-stray : (read_of (5 ∷ []) (reader 0) [] [] []).moved ≡ 1
 
 pub differ : Differ
-unfolding next_of answer_of refusal_next first shape_refusal room_of picture_most picture_length accepted size_bad four_bad odd_bad height_bad plane_length counted possible tight_length visible_row_bytes visible_height visible_width picture_of planes_in slice_of macroblock head mb_at mb block block_row cat part mono in_plane F.bytes_of sub_width_c sub_height_c block_width block_height block_row_bytes mb_bytes pic_width_in_mbs frame_height_in_mbs next_multiple div_ceil meet behind next code blank trim lay turn turned at judge unit_verdict fault fault_here next_out out_of next_bytes picture_unit joined esc_from emit zeros inserts planes_refusal chroma_refusal plane_refusal stride_bad rows_bad session_bad depths_bad padded_width padded_height padded_row_bytes
+unfolding next_of answer_of named refusal_next first shape_refusal room_of picture_most picture_length accepted size_bad four_bad odd_bad height_bad plane_length counted possible tight_length visible_row_bytes visible_height visible_width picture_of planes_in slice_of macroblock head mb_at mb block block_row cat part mono in_plane F.bytes_of sub_width_c sub_height_c block_width block_height block_row_bytes mb_bytes pic_width_in_mbs frame_height_in_mbs next_multiple div_ceil meet behind next code blank trim lay turn turned at judge unit_verdict fault fault_here next_out out_of next_bytes picture_unit joined esc_from emit zeros inserts planes_refusal chroma_refusal plane_refusal stride_bad rows_bad session_bad depths_bad padded_width padded_height padded_row_bytes
 differ = record {
   start_length_lem = ap length_of (started 0x10 (replicate 286 0) (omega arith) (omega (arith, length-replicate {A = ℕ} 286 0))).0;
   start_needs = ap length_of (lacked 0x10 [] (omega arith) (omega arith)).0;
@@ -98,13 +98,13 @@ pub record CodesDiffer : Type 0 where
   -- write_se: "always the code of 0", 1
   pub write-se-code : written_place (write_of (has_se (pos 4)) (se (pos 4)) (0 ∷ []) 0) 0 ≡ 7
   -- read_ue: "always at the first bit", 1
-  pub read-ue-place : ue_place (read_ue (0xC0 ∷ []) 1) 1 ≡ 2
+  pub read-ue-place : read_place (read_ue (0xC0 ∷ []) 1) 1 ≡ 2
   -- read_ue: "the number is not told", 0
-  pub read-ue-number : ue_number (read_ue (0x40 ∷ []) 0) 5 ≡ 1
+  pub read-ue-number : read_number (read_ue (0x40 ∷ []) 0) 5 ≡ 1
   -- read_se: "a code's place is not told", 0
-  pub read-se-place : se_place (read_se (0x80 ∷ []) 0) 0 ≡ 1
+  pub read-se-place : read_place (read_se (0x80 ∷ []) 0) 0 ≡ 1
   -- read_se: "no code is answered with 0", 0
-  pub read-se_none : se_read (read_se [] 0) ≡ 22
+  pub read-se_none : read_answer (read_se [] 0) ≡ 22
 
 pub codes-differ : CodesDiffer
 unfolding write_of has_ue has_se read_ue read_se room_for bit_count bits_from bits_of low_bits value_from whole code_bits code_num leading_zero_bits ue num_bits digits_in se mapped unmapped part

@@ -6,7 +6,7 @@
 --     one, two                    a take of one picture, with paper 01's samples, 0x10; and of two, of which the second has others
 --     exhibited                   their bytes: 286, and 266 more; they differ
 -- Assumes nothing.
-use Rattle.std.specs.Prelude.{◌≡◌, refl, List, [], ◌∷◌, ◌++◌, true, ℕ, zero, suc, ◌≤◌, ◌<◌, length, drop, replicate}
+use Rattle.std.specs.Prelude.{◌≡◌, refl, Err, List, [], ◌∷◌, ◌++◌, true, ℕ, zero, suc, ◌≤◌, ◌<◌, length, drop, replicate}
 use Rattle.std.proofs.Common.{ap, ◌∙◌, append-nil, arith, length-append, le-leb}
 use Rattle.std.proofs.lemmas.List.{length-replicate}
 use Rattle.std.proofs.lemmas.Bool.{lt-leb}
@@ -28,10 +28,10 @@ use Rattle.slice.specs.Cat.{cat}
 use Rattle.slice.specs.Layout.{block_row, block, mb, mb_at, head, macroblock, slice_of}
 use Rattle.slice.specs.Header.{header_is}
 use Rattle.slice.specs.Picture.{planes_in, picture_of}
-use Rattle.encoder.specs.declared.Encoded.TheVariants.{Written, NoRoom}
+use Rattle.encoder.specs.declared.EncodeError.TheVariants.{NoRoom}
 use Rattle.encoder.specs.Shot.{Shot, lent, image_of, lends_of, sequence_in}
 use Rattle.encoder.specs.Units.{sps_unit, pps_unit, picture_unit, start_bytes, next_bytes}
-use Rattle.encoder.specs.Answers.{answer_of, out_of, start_of, start_out, next_of, next_out}
+use Rattle.encoder.specs.Answers.{wrote, answer_of, out_of, start_of, start_out, next_of, next_out}
 use Rattle.take.specs.Take.{Take, nexts_bytes, bytes_of}
 
 abbrev pub flat : ℕ → Shot
@@ -103,19 +103,19 @@ next_length_lem : (x : ℕ) → 3 < x → length (next_bytes (sequence_in (flat 
 next_length_lem x l = ap length (flat_next x l) ∙ flat-length x
 
 -- with 286 bytes of output a start call is accepted, and its bytes stand in it
-pub started : (x : ℕ) (d : List ℕ) → 3 < x → 286 ≤ length d → (start_of (flat x) d ≡ Written flat_session 286) × (start_out (flat x) d ≡ (sets_flat ++ picture_flat x) ++ drop 286 d)
+pub started : (x : ℕ) (d : List ℕ) → 3 < x → 286 ≤ length d → (start_of (flat x) d ≡ wrote flat_session 286) × (start_out (flat x) d ≡ (sets_flat ++ picture_flat x) ++ drop 286 d)
 unfolding start_of start_out answer_of out_of
 started x d l r =
     let n = start_length_lem x l in
     rw (flat-passes x, n, le-leb 286 (length d) r, flat_start x l) (refl, refl)
 
 -- with fewer it is refused with 9, and the length needed is told
-pub lacked : (x : ℕ) (d : List ℕ) → 3 < x → length d < 286 → (start_of (flat x) d ≡ NoRoom 286) × (start_out (flat x) d ≡ d)
+pub lacked : (x : ℕ) (d : List ℕ) → 3 < x → length d < 286 → (start_of (flat x) d ≡ Err (NoRoom 286)) × (start_out (flat x) d ≡ d)
 unfolding start_of start_out answer_of out_of
 lacked x d l r = rw (flat-passes x, start_length_lem x l, lt-leb 286 (length d) r) (refl, refl)
 
 -- with 266 a next call is accepted
-pub went : (x : ℕ) (d : List ℕ) → 3 < x → 266 ≤ length d → (next_of flat_session (flat x) d ≡ Written flat_session 266) × (next_out flat_session (flat x) d ≡ picture_flat x ++ drop 266 d)
+pub went : (x : ℕ) (d : List ℕ) → 3 < x → 266 ≤ length d → (next_of flat_session (flat x) d ≡ wrote flat_session 266) × (next_out flat_session (flat x) d ≡ picture_flat x ++ drop 266 d)
 unfolding next_of next_out answer_of out_of
 went x d l r = rw (flat-follows x, next_length_lem x l, le-leb 266 (length d) r, flat_next x l) (refl, refl)
 

@@ -11,12 +11,11 @@
 --     host-refused      a refusal changes no byte of the planes and nothing that is held, 19 not even the place
 -- Of these proofs/Host.antt has `runs-get`, `lends-served`, `host-round_trip`, `host-cut`, `host_damage` and `host-refused`, since an edit of must-fail/ changes what they rest on.
 -- Assumes nothing.
-use Rattle.std.specs.Prelude.{◌≡◌, false, cond, ℕ, ◌+◌, eqb, drop}
+use Rattle.std.specs.Prelude.{◌≡◌, None, false, cond, ℕ, ◌+◌, eqb, drop}
 use Rattle.std.proofs.Math.Path.{refl, ap}
 use Rattle.std.proofs.Common.{◌∙◌}
 use mathlib.Core.List.{List, [], ◌∷◌}
 use Rattle.nal_unit.specs.Calls.{Say, ended, astray, said, at, Turn, turn}
-use Rattle.reader.specs.declared.HeldSps.TheVariants.{Missing}
 use Rattle.reader.specs.declared.Reader.{Reader}
 use Rattle.reader.specs.declared.Answer.{Answer}
 use Rattle.reader.specs.Judge.{Held, nothing, Samples, Word, sps, pps, picture, refused, judge}
@@ -63,7 +62,7 @@ pub record Host : Type 1 where
 
 -- a reader that has not begun
 abbrev pub fresh : Reader
-fresh = record { place = 0; sets = record { sps = Missing; pps = false } }
+fresh = record { place = 0; sets = record { sps = None; pps = false } }
 
 abbrev pub rattle : Host
 rattle = record {

@@ -13,11 +13,10 @@ use Rattle.std.specs.Prelude.{◌≡◌, refl, List, [], ◌∷◌, ◌++◌, Bo
 use Rattle.std.proofs.Common.{sym, ap, ◌∙◌, arith}
 use Rattle.nal_unit.specs.Calls.{Say, ended, astray, said, at}
 use Rattle.ycbcr_image.specs.declared.Session.{Session}
-use Rattle.encoder.specs.declared.Encoded.{Encoded}
-use Rattle.encoder.specs.declared.Encoded.TheVariants.{Written}
 use Rattle.ycbcr_image.specs.Refusals.{session_of}
 use Rattle.encoder.specs.Shot.{Shot, image_of}
-use Rattle.encoder.specs.Answers.{number_of, length_of, answer_of, out_of, Outcome, accepted, lacking, refused, outcome, zero-written, start_of, start_out, next_of, next_out}
+use Rattle.encoder.specs.Answers as A
+use Rattle.encoder.specs.Answers.{Encoded, number_of, length_of, answer_of, out_of, Outcome, accepted, lacking, refused, outcome, zero-written, start_of, start_out, next_of, next_out}
 use Rattle.reader.specs.Judge as J
 use Rattle.reader.specs.Judge.{nothing, Word}
 use Rattle.reader.specs.Read.{told, number_told}
@@ -107,8 +106,8 @@ wrotes s [] = []
 wrotes s (k ∷ ks) = cond (eqb k.number 0) (wrote s k ∷ wrotes s ks) (wrotes s ks)
 
 -- a call that is answered with 0 is accepted: l is then its length
-zero_is : (r : ℕ) (s : Session) (w d : List ℕ) {l : ℕ} → number_of (answer_of r s w (length d)) ≡ 0 → l ≡ length_of (answer_of r s w (length d)) → answer_of r s w (length d) ≡ Written s l
-zero_is r s w d e f = let a = zero-written r s w d e in a ∙ ap (Written s) (sym (f ∙ ap length_of a))
+zero_is : (r : ℕ) (s : Session) (w d : List ℕ) {l : ℕ} → number_of (answer_of r s w (length d)) ≡ 0 → l ≡ length_of (answer_of r s w (length d)) → answer_of r s w (length d) ≡ A.wrote s l
+zero_is r s w d e f = let a = zero-written r s w d e in a ∙ ap (λ (k : ℕ). A.wrote s k) (sym (f ∙ ap length_of a))
 
 -- the numbers of a call that is answered with 0 are known
 known-zero : (b : Bool) (n : ℕ) → 0 ≡ cond b n 99 → b ≡ true
@@ -117,7 +116,7 @@ known-zero false n e = absurd (omega arith)
 
 -- what an accepted start call of C is: the writer's own, whose session it leaves in the numbers
 pub record Begun (p : PictureIn) (d : List ℕ) (l : ℕ) (d' ws' : List ℕ) : Type 0 where
-  pub writes : start_of (shot_in p) d ≡ Written (session_of (image_of (shot_in p))) l
+  pub writes : start_of (shot_in p) d ≡ A.wrote (session_of (image_of (shot_in p))) l
   pub bytes : d' ≡ start_out (shot_in p) d
   pub holds : held_of ws' ≡ session_of (image_of (shot_in p))
 
@@ -130,7 +129,7 @@ begun_in p d ws r =
 
 -- an accepted next call, where the numbers say the session s
 pub record Went (s : Session) (p : PictureIn) (d : List ℕ) (l : ℕ) (d' : List ℕ) : Type 0 where
-  pub writes : next_of s (shot_in p) d ≡ Written s l
+  pub writes : next_of s (shot_in p) d ≡ A.wrote s l
   pub bytes : d' ≡ next_out s (shot_in p) d
 
 pub went_in : (s : Session) (p : PictureIn) (d ws : List ℕ) {l : ℕ} {d' ws' : List ℕ} → held_of ws ≡ s → NextsIn p d ws 0 l d' ws' → Went s p d l d'

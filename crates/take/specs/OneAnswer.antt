@@ -7,9 +7,8 @@
 use Rattle.std.specs.Prelude.{◌≡◌, List, ℕ}
 use Rattle.std.proofs.Common.{sym, ◌∙◌}
 use Rattle.ycbcr_image.specs.declared.Session.{Session}
-use Rattle.encoder.specs.declared.Encoded.{Encoded}
 use Rattle.encoder.specs.Shot.{Shot}
-use Rattle.encoder.specs.Answers.{start_of, start_out, next_of, next_out}
+use Rattle.encoder.specs.Answers.{Encoded, start_of, start_out, next_of, next_out}
 use Rattle.reader.specs.declared.Reader.{Reader}
 use Rattle.reader.specs.declared.Step.{Step}
 use Rattle.reader.specs.Read.{Reads, reads_one}

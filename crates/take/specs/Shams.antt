@@ -11,7 +11,7 @@
 --     no_refusing_always ..            none of these meets the contract
 --     honest                           which the definitions themselves do
 -- Assumes nothing.
-use Rattle.std.specs.Prelude.{◌≡◌, refl, List, [], ◌∷◌, ◌++◌, Bool, true, false, ◌&&◌, ℕ, zero, suc, ◌-◌, ◌^◌, ◌≤◌, ◌<◌, T, ltb, length, take, drop, replicate, get_or}
+use Rattle.std.specs.Prelude.{◌≡◌, refl, Option, Some, None, List, [], ◌∷◌, ◌++◌, Bool, true, false, ◌&&◌, ℕ, zero, suc, ◌-◌, ◌^◌, ◌≤◌, ◌<◌, T, ltb, length, take, drop, replicate, get_or}
 use Rattle.std.proofs.Common.{sym, ap, ◌∙◌, arith, ltb→lt, length-append, take_at}
 use Rattle.std.proofs.lemmas.List.{length-replicate}
 use Rattle.lists.specs.Every.{Below, below_nil, below_cons}
@@ -21,13 +21,9 @@ use Rattle.nal_unit.specs.Walk.{blank, lay, trim, unit, behind, meet}
 use Rattle.nal_unit.specs.Calls.{at, said, turn, turn_unit}
 use Rattle.ycbcr_image.specs.declared.Session.{Session}
 use Rattle.ycbcr_image.specs.Sizes.{Sequence, sequence_of}
-use Rattle.encoder.specs.declared.Encoded.{Encoded}
-use Rattle.encoder.specs.declared.Encoded.TheVariants.{Written}
 use Rattle.encoder.specs.Shot.{Shot, image_of, lends_of, sequence_in}
 use Rattle.encoder.specs.Units.{start_bytes, next_bytes}
-use Rattle.encoder.specs.Answers.{number_of, length_of, answer_of, zero-written, start_of, start_out, next_of, next_out}
-use Rattle.reader.specs.declared.HeldSps.{HeldSps}
-use Rattle.reader.specs.declared.HeldSps.TheVariants.{Missing, Size}
+use Rattle.encoder.specs.Answers.{Encoded, wrote, number_of, length_of, answer_of, zero-written, start_of, start_out, next_of, next_out}
 use Rattle.reader.specs.declared.Reader.{Reader}
 use Rattle.reader.specs.declared.Step.{Step}
 use Rattle.reader.specs.declared.Answer.TheVariants.{End, Sps}
@@ -64,9 +60,9 @@ MeetsStart w = (g : Given) → ((w g).answer ≡ start_of g.shot g.out) × ((w g
 abbrev pub MeetsNext : Session → Writer → Type 0
 MeetsNext s w = (g : Given) → ((w g).answer ≡ next_of s g.shot g.out) × ((w g).out ≡ next_out s g.shot g.out)
 
-abbrev pub Sizes : HeldSps → Type 0
-Sizes Missing = Unit {0}
-Sizes (Size s) = (s.width < 2 ^ 32) × (s.height < 2 ^ 32)
+abbrev pub Sizes : Option Session → Type 0
+Sizes None = Unit {0}
+Sizes (Some s) = (s.width < 2 ^ 32) × (s.height < 2 ^ 32)
 
 -- a call of the reader: the bytes of a take, a state, three planes
 pub record Shown : Type 0 where
@@ -117,7 +113,7 @@ Repeats v w =
 
 -- the next call behind any accepted start call meets its contract in the session that the start call left
 abbrev pub MeetsBehind : Writer → (Given → Writer) → Type 0
-MeetsBehind v w = (g : Given) (s : Session) (n : ℕ) → (v g).answer ≡ Written s n → MeetsNext s (w g)
+MeetsBehind v w = (g : Given) (s : Session) (n : ℕ) → (v g).answer ≡ wrote s n → MeetsNext s (w g)
 
 -- "or reads only the first unit": v is the first call, w g the call behind g. Over whatever take, the second call is answered with End.
 abbrev pub FirstUnitOnly : Player → (Shown → Player) → Type 0
@@ -159,12 +155,12 @@ abbrev twenty : Given
 twenty = given 0x20 (omega arith)
 
 -- what they are answered with, and what they leave, where the contract is met
-start_flat : (w : Writer) → MeetsStart w → (x : ℕ) (l : x < 256) → 3 < x → ((w (given x l)).answer ≡ Written flat_session 286) × ((w (given x l)).out ≡ (sets_flat ++ picture_flat x) ++ drop 286 zeros)
+start_flat : (w : Writer) → MeetsStart w → (x : ℕ) (l : x < 256) → 3 < x → ((w (given x l)).answer ≡ wrote flat_session 286) × ((w (given x l)).out ≡ (sets_flat ++ picture_flat x) ++ drop 286 zeros)
 start_flat w m x l k =
     let s = started x zeros k (omega (arith, length-replicate {A = ℕ} 286 0)) in
     ((m (given x l)).0 ∙ s.0, (m (given x l)).1 ∙ s.1)
 
-next_flat : (w : Writer) → MeetsNext flat_session w → (x : ℕ) (l : x < 256) → 3 < x → ((w (given x l)).answer ≡ Written flat_session 266) × ((w (given x l)).out ≡ picture_flat x ++ drop 266 zeros)
+next_flat : (w : Writer) → MeetsNext flat_session w → (x : ℕ) (l : x < 256) → 3 < x → ((w (given x l)).answer ≡ wrote flat_session 266) × ((w (given x l)).out ≡ picture_flat x ++ drop 266 zeros)
 next_flat w m x l k =
     let s = went x zeros k (omega (arith, length-replicate {A = ℕ} 286 0)) in
     ((m (given x l)).0 ∙ s.0, (m (given x l)).1 ∙ s.1)
@@ -244,7 +240,7 @@ shown b s = record { bytes = of_one; reader = b; y = []; cb = []; cr = []; lent 
 
 -- the state behind the first unit
 abbrev second : Reader
-second = record { place = 13; sets = record { sps = Size flat_session; pps = false } }
+second = record { place = 13; sets = record { sps = Some flat_session; pps = false } }
 
 first_read : Reads of_one fresh [] [] [] (record { answer = Sps 4 flat_session; reader = second }) [] [] []
 unfolding at

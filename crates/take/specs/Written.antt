@@ -9,11 +9,10 @@ use Rattle.ycbcr_image.specs.declared.Session.{Session}
 use Rattle.ycbcr_image.specs.Sizes.{Sequence, sequence_of}
 use Rattle.ycbcr_image.specs.Refusals.{session_of, refusal_of, refusal_next}
 use Rattle.ycbcr_image.proofs.Passed.{passed_next}
-use Rattle.encoder.specs.declared.Encoded.{Encoded}
-use Rattle.encoder.specs.declared.Encoded.TheVariants.{Written}
 use Rattle.encoder.specs.Shot.{Shot, image_of, lends_of, sequence_in}
 use Rattle.encoder.specs.Units.{start_bytes, next_bytes}
-use Rattle.encoder.specs.Answers.{number_of, length_of, session_after, answer_of, out_of, Outcome, accepted, lacking, refused, outcome, start_of, start_out, next_of, next_out}
+use Rattle.ycbcr_image.specs.Numbers.{number, number_low, named}
+use Rattle.encoder.specs.Answers.{Encoded, wrote, number_of, length_of, session_after, answer_of, out_of, Outcome, accepted, lacking, refused, outcome, start_of, start_out, next_of, next_out}
 use Rattle.take.specs.Take.{Follows, Take, nexts_bytes, bytes_of}
 
 pub record Wrote : Type 0 where
@@ -25,12 +24,12 @@ pub record Wrote : Type 0 where
 -- accepted next calls behind one that left the session s
 abbrev pub Nexts : Session → List Wrote → Type 0
 Nexts s [] = Unit {0}
-Nexts s (c ∷ cs) = (next_of s c.shot c.out ≡ Written c.session c.len) × Nexts c.session cs
+Nexts s (c ∷ cs) = (next_of s c.shot c.out ≡ wrote c.session c.len) × Nexts c.session cs
 
 pub record Shoot : Type 0 where
   pub first : Wrote
   pub others : List Wrote
-  pub begun : start_of first.shot first.out ≡ Written first.session first.len
+  pub begun : start_of first.shot first.out ≡ wrote first.session first.len
   pub went : Nexts first.session others
 
 unfoldable pub nexts_file : Session → List Wrote → List ℕ
@@ -51,7 +50,7 @@ record Accepted (r : ℕ) (s : Session) (w d : List ℕ) (t : Session) (n : ℕ)
   same : t ≡ s
   bytes : take n (out_of r w d) ≡ w
 
-written : (r : ℕ) (s : Session) (w d : List ℕ) {t : Session} {n : ℕ} → answer_of r s w (length d) ≡ Written t n → Accepted r s w d t n
+written : (r : ℕ) (s : Session) (w d : List ℕ) {t : Session} {n : ℕ} → answer_of r s w (length d) ≡ wrote t n → Accepted r s w d t n
 written r s w d {t} {n} e = go (outcome r s w d)
   where
     z : number_of (answer_of r s w (length d)) ≡ 0
@@ -59,15 +58,15 @@ written r s w d {t} {n} e = go (outcome r s w d)
 
     go : Outcome r s w d → Accepted r s w d t n
     go (accepted i l a o) =
-        let k : Written s (length w) ≡ Written t n = sym a ∙ e in
+        let k : wrote s (length w) ≡ wrote t n = sym a ∙ e in
         let m : length w ≡ n = ap length_of k in
         record { none = i; same = sym (ap (λ (x : Encoded). session_after x s) k); bytes = rw o (take_at w (drop (length w) d) n m) }
     go (lacking i l a o) =
         let k : ◌≡◌ {A = ℕ} 9 0 = sym (ap number_of a) ∙ z in
         absurd (omega arith)
-    go (refused i a o) = absurd (i (sym (ap number_of a) ∙ z))
+    go (refused i a o) = let k : number (named r) ≡ 0 = sym (ap number_of a) ∙ z in absurd (omega (arith, number_low (named r)))
 
-next_written : (s : Session) (c : Wrote) → next_of s c.shot c.out ≡ Written c.session c.len
+next_written : (s : Session) (c : Wrote) → next_of s c.shot c.out ≡ wrote c.session c.len
     → Accepted (refusal_next (sequence_of s) (image_of c.shot)) s (next_bytes (sequence_in c.shot) (lends_of c.shot)) c.out c.session c.len
 unfolding next_of
 next_written s c e = written _ s _ c.out e
