@@ -1,4 +1,5 @@
-// Tests of a stretch of bytes.
+// Tests of a stretch of bytes. A stretch stays a slice, a place and a length: the tests look at the two bytes before it, and the clauses of `calm` and `void`
+// name the places.
 ghost use Rattle.std.specs.Prelude.{◌≡◌, ℕ, true, false, ◌+◌, ◌≤◌, ◌<◌, length};
 ghost use Rattle.lists.specs.Flag.{every};
 ghost use Rattle.nal_unit.specs.EscapeCode.{counted};

@@ -1,6 +1,6 @@
 // Looking through lent bytes for start codes, faults and the bounds of units (ITU-T H.264 B.1.1, 7.4.1).
 // Each search goes 64 places at a time, and byte by byte only where one of them has what is sought. The test of a place is an or of its bytes and has no
-// branch, so that the test of 64 compiles to vector code.
+// branch, so that the test of 64 compiles to vector code. A slice and a place in it stay two parameters: the public functions' answers are places of the slice.
 ghost use Rattle.std.specs.Prelude.{◌≡◌, ℕ, [], ◌∷◌, false, ◌&&◌, ◌+◌, ◌-◌, ◌≤◌, ◌<◌, leb, eqb, length, take, drop, slice_index, IfSome, None};
 ghost use Rattle.nal_unit.specs.StartCode.{code, next};
 ghost use Rattle.nal_unit.specs.Unescape.{fault_here};

@@ -1,5 +1,6 @@
 // Unescaping (ITU-T H.264 7.3.1): the payload of lent escaped bytes. The first two are payload whatever they are; of each behind them the two before it tell
 // whether it was inserted (taking.rt). Where nothing was inserted the payload goes 64 bytes at a time, pairs of zeros go at once, others byte by byte.
+// A slice and a place in it stay two parameters: whether a byte was inserted is seen from the two before it.
 ghost use Rattle.std.specs.Prelude.{◌≡◌, ◌++◌, ◌+◌, ◌<◌, ◌≤◌, leb, length, drop};
 ghost use Rattle.nal_unit.specs.Answers.{unescape_of, unescaped_out};
 ghost use Rattle.nal_unit.specs.Unescape.{un};
