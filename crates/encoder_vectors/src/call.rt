@@ -14,10 +14,17 @@ const BYTES: usize = 900000;
 // The most bytes that planes have, all together.
 const DRAWN: usize = 700000;
 
+// The call that is made.
+#[derive(Clone, Copy, Debug, PartialEq, Eq)]
+pub enum Entry {
+    Start,
+    Next,
+}
+
 // A start or a next call with a picture, and what the planes of that hold.
-#[derive(Clone, Copy)]
+#[derive(Clone, Copy, Debug, PartialEq, Eq)]
 pub struct Call {
-    pub next: bool,
+    pub entry: Entry,
     pub image: YCbCrImage,
     pub content: Content,
     pub seed: u64,
@@ -33,16 +40,15 @@ struct Case<'a> {
 impl Case<'_> {
     // Makes the call, a next call in the session held.
     fn make(self, held: Session, out: &mut [u8]) -> Result<Written, EncodeError> {
-        if self.call.next {
-            encoder::next(held, self.picture, out)
-        } else {
-            encoder::start(self.picture, out)
+        match self.call.entry {
+            Entry::Start => encoder::start(self.picture, out),
+            Entry::Next => encoder::next(held, self.picture, out),
         }
     }
 }
 
 // What an output begins with: the length that is written, the sum of these bytes, and the bytes, as far as they are known.
-#[derive(Clone, Copy)]
+#[derive(Clone, Copy, Debug, PartialEq, Eq)]
 pub struct Output<'a> {
     pub length: usize,
     pub sum: u64,
@@ -62,7 +68,7 @@ impl Output<'_> {
 }
 
 // What a call has to answer, and what its output begins with then.
-#[derive(Clone, Copy)]
+#[derive(Clone, Copy, Debug, PartialEq, Eq)]
 struct Wanted<'a> {
     answer: Result<Written, EncodeError>,
     output: Output<'a>,
@@ -128,7 +134,7 @@ impl Host {
     // All that is compared of an accepted call: what it writes where there is more room than it needs, and where there is just that; and
     // a byte short, and in no room at all, the refusal for want of room.
     fn judge_written(&mut self, case: Case<'_>, output: Output<'_>) -> Result<(), LineError> {
-        let length = output.length;
+        let Output { length, .. } = output;
         if length == 0 || BYTES < length {
             return Err(LineError::Malformed);
         }

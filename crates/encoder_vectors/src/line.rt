@@ -11,7 +11,7 @@
 //
 // that is the number of a refusal; or 0, the length written, the sum of the bytes, and the bytes themselves or `-`; or 0, the length, and how
 // many macroblocks and which sequence parameter set plain.rt writes, `-` for none.
-use crate::call::Call;
+use crate::call::{Call, Entry};
 use crate::samples::Content;
 use crate::words::{number, short};
 use std::alloc::AllocError;
@@ -19,7 +19,7 @@ use std::str::Split;
 use ycbcr_image::{BitDepth, DataPlane, Kind, Refusal, YCbCrImage};
 
 // Why a line was not judged.
-#[derive(Drop)]
+#[derive(Clone, Copy, Debug, PartialEq, Eq)]
 pub enum LineError {
     Malformed,
     Memory(AllocError),
@@ -32,7 +32,7 @@ impl From<AllocError> for LineError {
 }
 
 // The answer to a call, as a line gives it.
-#[derive(Clone, Copy)]
+#[derive(Clone, Copy, Debug, PartialEq, Eq)]
 pub enum Answer<'a> {
     Refused(Refusal),
     Bytes {
@@ -47,11 +47,11 @@ pub enum Answer<'a> {
     },
 }
 
-// Whether a word says that the call is a next call.
-fn is_next(word: &str) -> Option<bool> {
+// The entry that a word names.
+fn entry(word: &str) -> Option<Entry> {
     match word {
-        "start" => Some(false),
-        "next" => Some(true),
+        "start" => Some(Entry::Start),
+        "next" => Some(Entry::Next),
         _ => None,
     }
 }
@@ -110,7 +110,7 @@ fn plane(words: &mut Split<'_, char>, depth: BitDepth) -> Option<DataPlane> {
 
 // Reads the words of a call.
 pub fn read_call(words: &mut Split<'_, char>) -> Option<Call> {
-    let next = is_next(words.next()?)?;
+    let entry = entry(words.next()?)?;
     let kind = kind(words.next()?)?;
     let content = content(words.next()?)?;
     let y_depth = depth(words.next()?)?;
@@ -131,7 +131,7 @@ pub fn read_call(words: &mut Split<'_, char>) -> Option<Call> {
         cr,
     };
     Some(Call {
-        next,
+        entry,
         image,
         content,
         seed,

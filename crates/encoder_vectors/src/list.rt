@@ -82,8 +82,8 @@ impl Host {
         }
     }
 
-    // The same of what stands from one line end to the next, which it begins behind. What is malformed counts as a comparison that found a difference, and so
-    // does what stands behind the last line end.
+    // Judges a piece of a text, a line with its line end. A malformed line counts as a comparison that found a difference, and so does what stands behind the
+    // last line end.
     fn judge_piece(&mut self, piece: &[u8]) -> Result<(), AllocError> {
         let judged = match piece.strip_suffix(b"\n") {
             Some(line) => self.judge_line(line),

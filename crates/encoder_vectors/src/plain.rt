@@ -1,5 +1,5 @@
 // What a call whose planes hold one byte throughout has to write, written here byte by byte.
-use crate::call::Call;
+use crate::call::{Call, Entry};
 use std::alloc::{AllocError, Global};
 
 // The room for it.
@@ -82,7 +82,7 @@ pub fn bytes_of(
         bytes: Vec::new(alloc),
         zeros: 0,
     };
-    if !call.next {
+    if call.entry == Entry::Start {
         writer.put_sets(sps)?;
     }
     let v = (call.seed % 256) as u8;

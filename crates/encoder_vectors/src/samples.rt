@@ -1,7 +1,7 @@
 // The bytes of planes, drawn from a seed: the list gives the seed and the content, and not the bytes.
 
 // What the bytes are: all the seed's lowest byte; any; none of them 0; some of them 0 to 3; most of them 0.
-#[derive(Clone, Copy)]
+#[derive(Clone, Copy, Debug, PartialEq, Eq)]
 pub enum Content {
     All,
     Any,
