@@ -1,5 +1,6 @@
 // The library as C sees it (include/reelpony.h). Kinds, depths and sessions are numbers here; a number that is none of them is refused with 99 before every
-// other test. Each function answers paper 01's number, 0 where the call is accepted.
+// other test. Each function answers a refusal's number, 0 where the call is accepted. Parameters, numbers and words are those of the C interface, and so stay as
+// they are, one by one; behind them stand the crates' own types.
 #![tactic(auto)]
 
 pub mod pieces;

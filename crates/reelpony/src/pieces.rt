@@ -1,4 +1,4 @@
-// The pieces of writing and reading as C sees them (include/reelpony.h): escaping, unescaping and both Exp-Golomb codes. Each function answers paper 01's number,
+// The pieces of writing and reading as C sees them (include/reelpony.h): escaping, unescaping and both Exp-Golomb codes. Each function answers a refusal's number,
 // 0 where the call is accepted. A refused call tells a length of 0, or the place given, and leaves all else that is lent to it as it was.
 ghost use Rattle.std.specs.Prelude.{◌≡◌};
 ghost use Rattle.golomb.specs.Code.{ue};

@@ -1,5 +1,5 @@
 // The reader as C sees it (include/reelpony.h). State and answer are eight numbers each, and any numbers are a state: those that no call leaves count as
-// holding nothing.
+// holding nothing. The words are those of the C interface.
 ghost use Rattle.std.specs.Prelude.{◌≡◌, ◌≤◌, ◌^◌, IfSome, IsNone};
 ghost use Rattle.ycbcr_image.specs.Sizes.{sequence_of};
 ghost use Rattle.reader.specs.Judge.{counted};

@@ -1,4 +1,5 @@
-// The exports that C links (include/reelpony.h): each call is the function of its name in the crate `reelpony`, with the same promise.
+// The exports that C links (include/reelpony.h): each call is the function of its name in the crate `reelpony`, with the same promise. They are written twice
+// since the C interface has a static library, and take cites the calls of a library.
 #![tactic(auto)]
 
 ghost use Rattle.std.specs.Prelude.{◌≡◌};
