@@ -31,7 +31,7 @@ pub struct Call {
 }
 
 // A call with the picture that it lends.
-#[derive(Clone, Copy)]
+#[derive(Clone, Copy, Debug, PartialEq, Eq)]
 struct Case<'a> {
     call: Call,
     picture: Picture<'a>,

@@ -10,7 +10,7 @@ pub enum Content {
     Many,
 }
 
-// The generator's next state (xorshift, 64 bits).
+// The generator's next state (xorshift, 64 bits). reader_vectors has these lines too: a crate of their own would be no plainer.
 fn step(x: u64) -> u64 {
     let a = x ^ (x << 13);
     let b = a ^ (a >> 7);

@@ -8,7 +8,7 @@ use tally::Tally;
 pub const PLANE: usize = 1000;
 
 // One thing of each plane.
-#[derive(Clone, Copy)]
+#[derive(Clone, Copy, Debug, PartialEq, Eq)]
 pub struct Planes<T> {
     pub y: T,
     pub cb: T,
@@ -33,7 +33,7 @@ pub const NO_BYTES: Planes<&'static [u8]> = Planes {
 };
 
 // A case: its name, the take, and where the reading stands.
-#[derive(Clone, Copy)]
+#[derive(Clone, Copy, Debug, PartialEq, Eq)]
 pub struct Case<'a> {
     pub name: &'a str,
     pub take: &'a [u8],
@@ -61,7 +61,7 @@ impl<'a> Case<'a> {
 }
 
 // What a call has to answer, the state that it has to leave, and what the planes have to begin with then.
-#[derive(Clone, Copy)]
+#[derive(Clone, Copy, Debug, PartialEq, Eq)]
 pub struct Wanted<'a> {
     pub answer: Answer,
     pub then: Reader,

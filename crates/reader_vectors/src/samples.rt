@@ -47,7 +47,7 @@ impl Generator {
         }
     }
 
-    // The next byte.
+    // The next byte. encoder_vectors has the generator's lines too: a crate of their own would be no plainer.
     fn draw(&mut self) -> u8 {
         let a = self.state ^ (self.state << 13);
         let b = a ^ (a >> 7);
