@@ -16,7 +16,7 @@ use encoder::{Depths, EncodeError, Picture, Written};
 use slice::{Planes, Strides};
 use ycbcr_image::{BitDepth, Kind, Session};
 
-// The kind of a colour; None for a number that is none.
+// The kind of a colour, as C numbers it; None for a number that is none.
 #[tactic(auto, unfolding(crate::specs::Numbers::colour_known, crate::specs::Numbers::kind_of))]
 fn kind_of(colour: u32) -> Option<Kind>
     ensures { result ≡ kind_in colour }
@@ -28,7 +28,7 @@ fn kind_of(colour: u32) -> Option<Kind>
     }
 }
 
-// The depth of a number of bits; None for a number that is none.
+// The depth of a number of bits, as C says it; None for a number that is none.
 #[tactic(auto, unfolding(crate::specs::Numbers::depth_known, crate::specs::Numbers::bit_depth_of))]
 fn depth_of(bits: u32) -> Option<BitDepth>
     ensures { result ≡ depth_in bits }
