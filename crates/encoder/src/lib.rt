@@ -136,7 +136,8 @@ pub fn room(s: Session) -> usize
     SETS_MOST + picture_most(s)
 }
 
-// A picture that passes the refusals: its planes, and the session that it begins.
+// A picture that passes the refusals: its planes, and the session that it begins. slice has such a type of its own: its public functions ask for what this one
+// holds (docs/ANSWERS.md), and so take the parts.
 #[derive(Clone, Copy)]
 struct Admitted<'a> {
     planes: Planes<'a>,

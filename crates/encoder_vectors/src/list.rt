@@ -107,7 +107,8 @@ pub fn judge_text(alloc: Global, text: &[u8]) -> Result<Tally, AllocError> {
     Ok(host.tally)
 }
 
-// Judges the list on standard input. An empty one is malformed, and so is one of LIST bytes or more.
+// Judges the list on standard input. An empty one is malformed, and so is one of LIST bytes or more. Each list program has its own limit and its own judge: one
+// function for all would be no plainer than these lines.
 pub fn judge_input(rt: &(impl Input + AllocGlobal)) -> io::Result<Tally> {
     let mut text = Vec::new(rt.alloc());
     rt.reader().take(LIST as u64).read_to_end(&mut text)?;

@@ -61,5 +61,5 @@ fn main(rt: HostRuntime) -> io::Result<()> {
     run_pictures(&rt, &mut t)?;
     run_refusals(&rt, &mut t)?;
     t.tell(&rt, "the calls of the list", list::judge_input(&rt)?)?;
-    t.print(&rt, "all")
+    Tally::default().tell(&rt, "all", t)
 }

@@ -11,7 +11,7 @@ pub fn number(word: &str) -> Option<u64> {
     word.parse().ok().filter(|x| *x <= LARGEST)
 }
 
-// The same as a u32; what no u32 holds is the largest of these.
+// The same as a u32; what no u32 holds is the largest of these, which the writer refuses.
 pub fn short(word: &str) -> Option<u32> {
     number(word).map(|x| u32::try_from(x).unwrap_or(u32::MAX))
 }

@@ -28,7 +28,7 @@ fn num_bits(x: u32) -> usize
     }
     let mut rest = x;
     let mut value = 0;
-    // A `while`: it ends when no digit is left, and goes over no range, so a `for` is no plainer.
+    // A loop over no index, and no library method yet: the form by leading zeros is a change of its own here (docs/DECISIONS.md).
     while rest != 0 {
         rest >>= 1;
         value += 1;

@@ -23,7 +23,7 @@ fn size(digits: &[u8]) -> Option<u64> {
     )
 }
 
-// The unsigned number of that sign and size; one without a code where it is out of range.
+// The unsigned number of that sign and size; one without a code where it is out of range, so that such a line is judged and found wrong, as it always was.
 fn unsigned(minus: bool, size: u64) -> Number {
     if minus {
         return Number::Ue(u32::MAX);

@@ -47,5 +47,5 @@ fn main(rt: HostRuntime) -> io::Result<()> {
         limits::plain_bits(),
     )?;
     all.tell(&rt, "the codes of the list", list::judge_input(&rt)?)?;
-    all.print(&rt, "all")
+    Tally::default().tell(&rt, "all", all)
 }

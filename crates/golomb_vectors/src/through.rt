@@ -1,4 +1,4 @@
-// Codes read through the bit reader: a reader of the payload is made, moved to the place, and read.
+// Codes read through the bit reader: a reader of the payload is made, moved to the place, and read. One function for each kind of code, as the reader has.
 ghost use Rattle.std.specs.Prelude.{◌≡◌};
 ghost use Rattle.golomb.specs.Answers.{read_ue, read_se};
 

@@ -79,7 +79,8 @@ pub fn put_slice(s: &[u8], p: usize, n: usize, out: &mut [u8], at: usize) -> usi
 }
 
 // Escapes the n bytes of payload that stand in the output as they are, from the place `at` on, where they stand, and answers the place behind them. Where one
-// of them wants 03, they are written again from a copy. 1040 bytes are a kilobyte of samples with the heads of their macroblocks.
+// of them wants 03, they are written again from a copy. No heap: the copy is of 1040 bytes, a kilobyte of samples
+// with the heads of their macroblocks.
 pub fn mend(out: &mut [u8], at: usize, n: usize) -> usize
     requires le_at { 2 ≤ at }
     requires n_bound { n ≤ 1040 }

@@ -203,7 +203,7 @@ pub fn unit_scan(s: &[u8], from: usize) -> UnitScan
     }
 }
 
-// Whether the bytes from `from` to `to` are all zero.
+// Whether the bytes from `from` to `to` are all zero. Beside `calm::void`, which takes a place and a count: docs/DECISIONS.md names both.
 pub fn all_zero(s: &[u8], from: usize, to: usize) -> bool
     requires { to ≤ length s.now }
     ensures { result ≡ blank (take (to - from) (drop from s.now)) }

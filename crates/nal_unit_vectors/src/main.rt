@@ -25,5 +25,5 @@ fn main(rt: HostRuntime) -> io::Result<()> {
         faults::around(),
     )?;
     all.tell(&rt, "00 00 03 at the end unescaped", faults::at_end())?;
-    all.print(&rt, "all")
+    Tally::default().tell(&rt, "all", all)
 }

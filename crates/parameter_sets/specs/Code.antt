@@ -1,5 +1,6 @@
 -- What the code needs of the definitions, and what crates above need of a payload.
---     head_fields, size_fields, sps-pieces   the sequence parameter set in the pieces that are written by a function each
+--     head_fields, size_fields, sps-pieces   the sequence parameter set in the pieces that are written by a method each
+--     cropping_of, cropping_in             what is cropped of a size, and what a payload says of it, if anything
 --     Putting                              pieces being written one behind the other into 32 bytes; put_room, put_next, put_last
 --     packed_in                            bits written into 32 bytes of zeros are packed there
 --     sps-length, sps_last                 a payload has 7 to 32 bytes, the last of them not 0

@@ -1,4 +1,5 @@
-// What the reader makes of a unit: refusals 11 to 19, a function for each kind of unit. Each answers with the reader's next state.
+// What the reader makes of a unit: refusals 11 to 19, a function for each kind of unit. Each answers with the reader's next state. The lent planes stay three
+// parameters, as in samples.rt and in the call.
 ghost use Rattle.std.specs.Prelude.{◌≡◌, true, ◌+◌, ◌≤◌, length, drop};
 ghost use Rattle.nal_unit.specs.Kept.{ins_count};
 ghost use Rattle.nal_unit.specs.StartCode.{next};

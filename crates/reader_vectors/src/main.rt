@@ -54,5 +54,5 @@ fn main(rt: HostRuntime) -> io::Result<()> {
     t.tell(&rt, "takes in colour read back", takes::colour(&rt)?)?;
     run_refusals(&rt, &mut t)?;
     run_edges(&rt, &mut t)?;
-    t.print(&rt, "all")
+    Tally::default().tell(&rt, "all", t)
 }

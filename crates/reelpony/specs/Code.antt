@@ -4,7 +4,7 @@
 --     session_in          the session that a size, a colour and a number of bits say, if they do
 --     Same                since of mono the depths of Cb and Cr are not looked at
 -- Assumes nothing.
-use Rattle.std.specs.Prelude.{◌≡◌, refl, Option, Some, None, List, [], ◌∷◌, Bool, true, false, cond, ◌&&◌, ℕ, eqb, get_or}
+use Rattle.std.specs.Prelude.{◌≡◌, refl, Option, Some, None, List, [], ◌∷◌, Bool, true, false, cond, ◌&&◌, ◌||◌, ℕ, eqb, get_or}
 use Rattle.std.proofs.Common.{ap, ◌∙◌}
 use Rattle.ycbcr_image.specs.declared.BitDepth.{BitDepth}
 use Rattle.ycbcr_image.specs.declared.Kind.{Kind}
@@ -18,13 +18,21 @@ use Rattle.slice.specs.declared.Strides.{Strides}
 use Rattle.encoder.specs.declared.Depths.{Depths}
 use Rattle.encoder.specs.Shot.{Shot, shot, image_of}
 use Rattle.encoder.specs.Answers.{Encoded, number_of, length_of, start_of, start_out, next_of, next_out}
-use Rattle.reelpony.specs.Numbers.{colour_known, depth_known, known, kind_of, bit_depth_of, depths_of, PictureIn, shot_in, held_of, words_of, words_after, start_number, start_length, start_buffer, start_words, next_number, next_length, next_buffer, StartsIn, NextsIn}
+use Rattle.reelpony.specs.Numbers.{colour_known, depth_known, known, kind_of, bit_depth_of, depths_of, PictureIn, known_in, shot_in, held_of, words_of, words_after, start_number, start_length, start_buffer, start_words, next_number, next_length, next_buffer, StartsIn, NextsIn}
 
 abbrev pub depths : BitDepth → BitDepth → BitDepth → Depths
 depths a b c = record { y = a; cb = b; cr = c }
 
 abbrev pub session : ℕ → ℕ → Kind → BitDepth → Session
 session w h k d = record { width = w; height = h; kind = k; depth = d }
+
+-- the tests of the parts are the test of all
+pub known_as : (c y cb cr : ℕ) {a b e f : Bool} → a ≡ colour_known c → b ≡ depth_known y → e ≡ depth_known cb → f ≡ depth_known cr → a && (b && (eqb c 0 || (e && f))) ≡ known c y cb cr
+unfolding known
+known_as c y cb cr p q r s = rw (p, q, r, s) refl
+
+pub depths_as : (y cb cr : ℕ) {a b c : BitDepth} → a ≡ bit_depth_of y → b ≡ bit_depth_of cb → c ≡ bit_depth_of cr → depths a b c ≡ depths_of y cb cr
+depths_as y cb cr p q r = rw (p, q, r) refl
 
 abbrev pub kind_in : ℕ → Option Kind
 kind_in c = cond (colour_known c) (Some (kind_of c)) None
@@ -144,13 +152,23 @@ session-said w h c d k e =
     rw (s.holds, d.holds, s.value, d.value) refl
 
 -- the session that eight numbers say, and that they say none
-pub held_as : (ws : List ℕ) {s : Session} → session_in (get_or ws 0 0) (get_or ws 1 0) (get_or ws 2 0) (get_or ws 3 0) ≡ Some s → s ≡ held_of ws
-unfolding session_in held_of
-held_as ws e = let s = said (colour_known (get_or ws 2 0) && depth_known (get_or ws 3 0)) e in rw s.holds s.value
+pub held_as : (ws : List ℕ) {a b : Bool} {k : Kind} {d : BitDepth} → a ≡ colour_known (get_or ws 2 0) → b ≡ depth_known (get_or ws 3 0) → a && b ≡ true → k ≡ kind_of (get_or ws 2 0) → d ≡ bit_depth_of (get_or ws 3 0)
+    → session (get_or ws 0 0) (get_or ws 1 0) k d ≡ held_of ws
+unfolding held_of
+held_as ws p q t r s = rw (← p, ← q, t, r, s) refl
 
-pub held_none : (ws : List ℕ) → session_in (get_or ws 0 0) (get_or ws 1 0) (get_or ws 2 0) (get_or ws 3 0) ≡ None → session 0 0 Mono Depth8 ≡ held_of ws
-unfolding session_in held_of
-held_none ws e = rw (unsaid (colour_known (get_or ws 2 0) && depth_known (get_or ws 3 0)) (session (get_or ws 0 0) (get_or ws 1 0) (kind_of (get_or ws 2 0)) (bit_depth_of (get_or ws 3 0))) e) refl
+pub held_none : (ws : List ℕ) {a b : Bool} → a ≡ colour_known (get_or ws 2 0) → b ≡ depth_known (get_or ws 3 0) → a && b ≡ false → session 0 0 Mono Depth8 ≡ held_of ws
+unfolding held_of
+held_none ws p q t = rw (← p, ← q, t) refl
+
+-- by the session of four numbers
+pub held_said : (ws : List ℕ) {s : Session} → session_in (get_or ws 0 0) (get_or ws 1 0) (get_or ws 2 0) (get_or ws 3 0) ≡ Some s → s ≡ held_of ws
+unfolding session_in
+held_said ws e = let s = said (colour_known (get_or ws 2 0) && depth_known (get_or ws 3 0)) e in s.value ∙ held_as ws refl refl s.holds refl refl
+
+pub held_unsaid : (ws : List ℕ) → session_in (get_or ws 0 0) (get_or ws 1 0) (get_or ws 2 0) (get_or ws 3 0) ≡ None → session 0 0 Mono Depth8 ≡ held_of ws
+unfolding session_in
+held_unsaid ws e = held_none ws refl refl (unsaid (colour_known (get_or ws 2 0) && depth_known (get_or ws 3 0)) (session (get_or ws 0 0) (get_or ws 1 0) (kind_of (get_or ws 2 0)) (bit_depth_of (get_or ws 3 0))) e)
 
 -- the eight numbers of a session
 pub words_as : (s : Session) {c d : ℕ} → c ≡ chroma_of s.kind → d ≡ depth_of s.depth → s.width ∷ s.height ∷ c ∷ d ∷ 0 ∷ 0 ∷ 0 ∷ 0 ∷ [] ≡ words_of s
@@ -238,41 +256,56 @@ same-formed : (p : PictureIn) {k : Kind} {ds : Depths} → Formed p.colour p.y.d
 same-formed p f = rw (f.kind, f.depths) (same-looked p)
 
 -- what a call answers and leaves where its numbers are not known
-pub start_unknown : (p : PictureIn) (d ws : List ℕ) → None ≡ form_in p.colour p.y.depth p.cb.depth p.cr.depth → StartsIn p d ws 99 0 d ws
+pub start_unknown : (p : PictureIn) (d ws : List ℕ) {a : Bool} → a ≡ known_in p → a ≡ false → StartsIn p d ws 99 0 d ws
 unfolding start_number start_length start_buffer start_words
-start_unknown p d ws e = let i = is_unknown p.colour p.y.depth p.cb.depth p.cr.depth e in record { number = rw i refl; len = rw i refl; bytes = rw i refl; session = rw i refl }
+start_unknown p d ws f e = record { number = rw (← f, e) refl; len = rw (← f, e) refl; bytes = rw (← f, e) refl; session = rw (← f, e) refl }
 
-pub next_unknown : (p : PictureIn) (d ws : List ℕ) → None ≡ form_in p.colour p.y.depth p.cb.depth p.cr.depth → NextsIn p d ws 99 0 d ws
+pub next_unknown : (p : PictureIn) (d ws : List ℕ) {a : Bool} → a ≡ known_in p → a ≡ false → NextsIn p d ws 99 0 d ws
 unfolding next_number next_length next_buffer
-next_unknown p d ws e = let i = is_unknown p.colour p.y.depth p.cb.depth p.cr.depth e in record { number = rw i refl; len = rw i refl; bytes = rw i refl; session = refl }
+next_unknown p d ws f e = record { number = rw (← f, e) refl; len = rw (← f, e) refl; bytes = rw (← f, e) refl; session = refl }
 
 -- they are, and the writer's answer is r
-pub start_known : (p : PictureIn) (d ws : List ℕ) {k : Kind} {ds : Depths} {r : Encoded} {d' ws' : List ℕ} {n l : ℕ} → Some (k, ds) ≡ form_in p.colour p.y.depth p.cb.depth p.cr.depth
+pub start_known : (p : PictureIn) (d ws : List ℕ) {a : Bool} {k : Kind} {ds : Depths} {r : Encoded} {d' ws' : List ℕ} {n l : ℕ} → a ≡ known_in p → a ≡ true
+    → k ≡ kind_of p.colour → ds ≡ depths_of p.y.depth p.cb.depth p.cr.depth
     → r ≡ start_of (shot_with p k ds) d → d' ≡ start_out (shot_with p k ds) d → ws' ≡ words_after r ws → l ≡ length_of r → n ≡ number_of r → StartsIn p d ws n l d' ws'
 unfolding start_number start_length start_buffer start_words
-start_known p d ws e r o u l n =
-    let f = is_formed p.colour p.y.depth p.cb.depth p.cr.depth e in
-    let i = f.is_known in
-    let m = same-formed p f in
-    let a = r ∙ m.start d in
+start_known p d ws f e k ds r o u l n =
     record {
-      number = rw i (n ∙ ap number_of a);
-      len = rw i (l ∙ ap length_of a);
-      bytes = rw i (o ∙ m.out d);
-      session = rw i (u ∙ ap (λ (x : Encoded). words_after x ws) a);
+      number = rw (← f, e) (n ∙ ap number_of (rw (k, ds) at r));
+      len = rw (← f, e) (l ∙ ap length_of (rw (k, ds) at r));
+      bytes = rw (← f, e) (rw (k, ds) at o);
+      session = rw (← f, e) (u ∙ ap (λ (x : Encoded). words_after x ws) (rw (k, ds) at r));
     }
 
-pub next_known : (p : PictureIn) (d ws : List ℕ) {k : Kind} {ds : Depths} {s : Session} {r : Encoded} {d' : List ℕ} {n l : ℕ} → Some (k, ds) ≡ form_in p.colour p.y.depth p.cb.depth p.cr.depth
-    → s ≡ held_of ws → r ≡ next_of s (shot_with p k ds) d → d' ≡ next_out s (shot_with p k ds) d → l ≡ length_of r → n ≡ number_of r → NextsIn p d ws n l d' ws
+pub next_known : (p : PictureIn) (d ws : List ℕ) {a : Bool} {k : Kind} {ds : Depths} {s : Session} {r : Encoded} {d' : List ℕ} {n l : ℕ} → a ≡ known_in p → a ≡ true
+    → k ≡ kind_of p.colour → ds ≡ depths_of p.y.depth p.cb.depth p.cr.depth → s ≡ held_of ws
+    → r ≡ next_of s (shot_with p k ds) d → d' ≡ next_out s (shot_with p k ds) d → l ≡ length_of r → n ≡ number_of r → NextsIn p d ws n l d' ws
 unfolding next_number next_length next_buffer
-next_known p d ws e s r o l n =
-    let f = is_formed p.colour p.y.depth p.cb.depth p.cr.depth e in
-    let i = f.is_known in
-    let m = same-formed p f in
-    let a = (r ∙ m.next _ d) ∙ ap (λ (x : Session). next_of x (shot_in p) d) s in
+next_known p d ws f e k ds s r o l n =
     record {
-      number = rw i (n ∙ ap number_of a);
-      len = rw i (l ∙ ap length_of a);
-      bytes = rw i ((o ∙ m.next_out _ d) ∙ ap (λ (x : Session). next_out x (shot_in p) d) s);
+      number = rw (← f, e) (n ∙ ap number_of (rw (k, ds, s) at r));
+      len = rw (← f, e) (l ∙ ap length_of (rw (k, ds, s) at r));
+      bytes = rw (← f, e) (rw (k, ds, s) at o);
       session = refl;
     }
+
+-- the same by what the four numbers of the call say
+pub start_unformed : (p : PictureIn) (d ws : List ℕ) → None ≡ form_in p.colour p.y.depth p.cb.depth p.cr.depth → StartsIn p d ws 99 0 d ws
+start_unformed p d ws e = start_unknown p d ws refl (is_unknown p.colour p.y.depth p.cb.depth p.cr.depth e)
+
+pub next_unformed : (p : PictureIn) (d ws : List ℕ) → None ≡ form_in p.colour p.y.depth p.cb.depth p.cr.depth → NextsIn p d ws 99 0 d ws
+next_unformed p d ws e = next_unknown p d ws refl (is_unknown p.colour p.y.depth p.cb.depth p.cr.depth e)
+
+pub start_formed : (p : PictureIn) (d ws : List ℕ) {k : Kind} {ds : Depths} {r : Encoded} {d' ws' : List ℕ} {n l : ℕ} → Some (k, ds) ≡ form_in p.colour p.y.depth p.cb.depth p.cr.depth
+    → r ≡ start_of (shot_with p k ds) d → d' ≡ start_out (shot_with p k ds) d → ws' ≡ words_after r ws → l ≡ length_of r → n ≡ number_of r → StartsIn p d ws n l d' ws'
+start_formed p d ws e r o u l n =
+    let f = is_formed p.colour p.y.depth p.cb.depth p.cr.depth e in
+    let m = same-formed p f in
+    start_known p d ws {k = kind_of p.colour} {ds = depths_of p.y.depth p.cb.depth p.cr.depth} refl f.is_known refl refl (r ∙ m.start d) (o ∙ m.out d) u l n
+
+pub next_formed : (p : PictureIn) (d ws : List ℕ) {k : Kind} {ds : Depths} {s : Session} {r : Encoded} {d' : List ℕ} {n l : ℕ} → Some (k, ds) ≡ form_in p.colour p.y.depth p.cb.depth p.cr.depth
+    → s ≡ held_of ws → r ≡ next_of s (shot_with p k ds) d → d' ≡ next_out s (shot_with p k ds) d → l ≡ length_of r → n ≡ number_of r → NextsIn p d ws n l d' ws
+next_formed p d ws e s r o l n =
+    let f = is_formed p.colour p.y.depth p.cb.depth p.cr.depth e in
+    let m = same-formed p f in
+    next_known p d ws {k = kind_of p.colour} {ds = depths_of p.y.depth p.cb.depth p.cr.depth} refl f.is_known refl refl s (r ∙ m.next _ d) (o ∙ m.next_out _ d) l n

@@ -1,20 +1,24 @@
 -- Laws of the reader's exported call that its code cites.
 --     sized ws      the numbers of a state have a size and kind that can be looked at
+--     SaysSize      what is read off them, if anything
 -- Assumes nothing.
 use Rattle.std.specs.Prelude.{◌≡◌, Option, Some, None, IsNone, IfSome, ◌^◌, List, [], ◌∷◌, ◌⊎◌, Bool, cond, ◌&&◌, ◌||◌, eqb, drop}
 use Rattle.std.proofs.Math.Path.{refl, ap}
 use Rattle.std.proofs.Common.{sym, ◌∙◌, inl, inr, true≢false, arith}
 use Rattle.std.proofs.Math.Bool.{true, false, and-eq-true_iff}
 use Rattle.std.proofs.Math.Option.{none, some}
-use Prim.Native.Nat.{ℕ, ◌+◌, ◌≤◌}
+use Prim.Native.Nat.{ℕ, zero, suc, ◌+◌, ◌≤◌}
 use Rattle.std.proofs.Math.Dec.{leb}
 use Rattle.std.proofs.Math.ListN.{get_or}
 use Rattle.std.proofs.lemmas.Bool.{eqb-false}
 use borrow.Author.Tests.{leb-true, le-leb, eqb-true, eq-eqb}
 use Rattle.nal_unit.specs.Calls.{Say, ended, astray, said, at}
+use Rattle.ycbcr_image.specs.declared.BitDepth.{BitDepth}
+use Rattle.ycbcr_image.specs.declared.Kind.{Kind}
 use Rattle.ycbcr_image.specs.declared.Session.{Session}
 use Rattle.ycbcr_image.specs.declared.BitDepth.TheVariants.{Depth8, Depth12}
 use Rattle.ycbcr_image.specs.declared.Kind.TheVariants.{Mono, Colour}
+use Rattle.ycbcr_image.specs.Form.{Form, form_of}
 use Rattle.ycbcr_image.specs.Sizes.{Sequence, sequence_of}
 use Rattle.ycbcr_image.specs.Refusals.{accepted}
 use Rattle.ycbcr_image.specs.Accepted.{sound}
@@ -27,22 +31,28 @@ use Rattle.reelpony.specs.Numbers.{colour_known, depth_known, kind_of, bit_depth
 use Rattle.reelpony.specs.Code.{session_in}
 use Rattle.reelpony.specs.Reading.{sequence_in, held_in, turn_in, told8, sized8, held8, after8, ReadsIn}
 
--- the numbers of a possible size and kind
-record Sized (ws : List ℕ) : Type 0 where
-  wide : get_or ws 2 0 ≤ 16384
-  high : get_or ws 3 0 ≤ 16384
-  colour : get_or ws 4 0 ≤ 1
-  depth : (get_or ws 5 0 ≡ 8) ⊎ (get_or ws 5 0 ≡ 12)
-  depth_most : get_or ws 5 0 ≤ 12
+unfoldable pub sized : List ℕ → Bool
+sized ws = (leb (get_or ws 2 0) 16384 && leb (get_or ws 3 0) 16384) && (leb (get_or ws 4 0) 1 && (eqb (get_or ws 5 0) 8 || eqb (get_or ws 5 0) 12))
 
-sized-has : (ws : List ℕ) → possible (sequence_in ws) ≡ true → Sized ws
-unfolding possible
+pub sized_as : (ws : List ℕ) → (leb (get_or ws 2 0) 16384 && leb (get_or ws 3 0) 16384) && (leb (get_or ws 4 0) 1 && (eqb (get_or ws 5 0) 8 || eqb (get_or ws 5 0) 12)) ≡ sized ws
+unfolding sized
+sized_as ws = refl
+
+pub record Sized (ws : List ℕ) : Type 0 where
+  pub wide : get_or ws 2 0 ≤ 16384
+  pub high : get_or ws 3 0 ≤ 16384
+  pub colour : get_or ws 4 0 ≤ 1
+  pub depth : (get_or ws 5 0 ≡ 8) ⊎ (get_or ws 5 0 ≡ 12)
+  pub depth_most : get_or ws 5 0 ≤ 12
+
+pub sized-has : (ws : List ℕ) → sized ws ≡ true → Sized ws
+unfolding sized
 sized-has ws e =
-    let a = (and-eq-true_iff (accepted (sequence_in ws)) _).0 e in
-    let g = sound (sequence_in ws) a.0 in
+    let a = (and-eq-true_iff (leb (get_or ws 2 0) 16384 && leb (get_or ws 3 0) 16384) _).0 e in
+    let b = (and-eq-true_iff (leb (get_or ws 2 0) 16384) _).0 a.0 in
     let c = (and-eq-true_iff (leb (get_or ws 4 0) 1) _).0 a.1 in
     let d = one (eqb (get_or ws 5 0) 8) refl c.1 in
-    record { wide = g.width-high; high = g.height-high; colour = leb-true _ _ c.0; depth = d; depth_most = most d }
+    record { wide = leb-true _ _ b.0; high = leb-true _ _ b.1; colour = leb-true _ _ c.0; depth = d; depth_most = most d }
   where
     one : (b : Bool) → eqb (get_or ws 5 0) 8 ≡ b → (b || eqb (get_or ws 5 0) 12) ≡ true → (get_or ws 5 0 ≡ 8) ⊎ (get_or ws 5 0 ≡ 12)
     one true i t = inl (eqb-true _ _ i)
@@ -52,11 +62,32 @@ sized-has ws e =
     most (inl i) = omega arith
     most (inr i) = omega arith
 
+-- the size and kind that the numbers say
+pub session_as : (ws : List ℕ) {k : Kind} {d : BitDepth} → Sized ws → k ≡ kind_of (get_or ws 4 0) → d ≡ bit_depth_of (get_or ws 5 0)
+    → sequence_of (record { width = get_or ws 2 0; height = get_or ws 3 0; kind = k; depth = d }) ≡ sequence_in ws
+unfolding kind_of bit_depth_of
+session_as ws g e f = rw (e, f) (ap (λ (m : Form). record { width = get_or ws 2 0; height = get_or ws 3 0; form = m }) (go (get_or ws 4 0) (get_or ws 5 0) g.colour g.depth))
+  where
+    go : (c d : ℕ) → c ≤ 1 → (d ≡ 8) ⊎ (d ≡ 12) → form_of (kind_of c) (bit_depth_of d) ≡ record { chroma = c; depth = d }
+    go zero d l (inl i) = rw i refl
+    go zero d l (inr i) = rw i refl
+    go (suc zero) d l (inl i) = rw i refl
+    go (suc zero) d l (inr i) = rw i refl
+    go (suc (suc c)) d l m = absurd (omega arith)
+
+-- a possible size and kind can be looked at
+possible-sized : (ws : List ℕ) → possible (sequence_in ws) ≡ true → sized ws ≡ true
+unfolding possible sized
+possible-sized ws e =
+    let a = (and-eq-true_iff (accepted (sequence_in ws)) _).0 e in
+    let g = sound (sequence_in ws) a.0 in
+    rw (le-leb (get_or ws 2 0) 16384 g.width-high, le-leb (get_or ws 3 0) 16384 g.height-high) a.1
+
 not_possible : (ws : List ℕ) → (Sized ws → ⊥) → possible (sequence_in ws) ≡ false
 not_possible ws z = go (possible (sequence_in ws)) refl
   where
     go : (b : Bool) → possible (sequence_in ws) ≡ b → possible (sequence_in ws) ≡ false
-    go true i = absurd (z (sized-has ws i))
+    go true i = absurd (z (sized-has ws (possible-sized ws i)))
     go false i = i
 
 -- what is read off a state's numbers says the same size and kind; nothing is read off numbers that no accepted set gives
@@ -135,6 +166,13 @@ module _ (ws : List ℕ) where
   pub sets-impossible : get_or ws 1 0 ≤ 1 → get_or ws 6 0 ≤ 1 → (get_or ws 1 0 ≡ 0 → ⊥) → possible (sequence_in ws) ≡ false → {h : Held} → h ≡ nothing → counted h ≡ counted (held_in ws)
   unfolding counted
   sets-impossible l m z i e = rw (← has l m z, e, i) refl
+
+  pub sets-unsized : get_or ws 1 0 ≤ 1 → get_or ws 6 0 ≤ 1 → (get_or ws 1 0 ≡ 0 → ⊥) → {b : Bool} → b ≡ sized ws → b ≡ false → {h : Held} → h ≡ nothing → counted h ≡ counted (held_in ws)
+  sets-unsized l m z f n e = sets-impossible l m z (by (possible (sequence_in ws)) refl) e
+    where
+      by : (b : Bool) → possible (sequence_in ws) ≡ b → possible (sequence_in ws) ≡ false
+      by true i = absurd (true≢false (sym (possible-sized ws i) ∙ (sym f ∙ n)))
+      by false i = i
 
   pub sets-sized : get_or ws 1 0 ≤ 1 → get_or ws 6 0 ≤ 1 → (get_or ws 1 0 ≡ 0 → ⊥) → {q : Sequence} → q ≡ sequence_in ws
       → counted (record { sps = some q; pps = eqb (get_or ws 6 0) 1 }) ≡ counted (held_in ws)

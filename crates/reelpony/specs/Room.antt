@@ -10,6 +10,7 @@ use Rattle.std.proofs.Common.{sym, ap, ◌∙◌, true≢false, ne_eqb}
 use Rattle.std.proofs.Math.Bool.{true, false, cond}
 use native.Mathlib.Omega.{arith}
 use Rattle.std.proofs.Math.Dec.{eqb}
+use Rattle.ycbcr_image.specs.declared.BitDepth.{BitDepth}
 use Rattle.ycbcr_image.specs.declared.Kind.{Kind}
 use Rattle.ycbcr_image.specs.Sizes.{sequence_of}
 use Rattle.ycbcr_image.specs.Shape.{of_shape, depths-alike}
@@ -74,15 +75,22 @@ pub next_none : (ws : List ℕ) (w h c : ℕ) (y cb cr : Plane) (d : List ℕ) �
 unfolding next_number
 next_none ws w h c y cb cr d = none w h c y cb cr d (room_next (held_of ws) (shot_of w h c y cb cr) d)
 
-pub room_unknown : (w h c d : ℕ) → None ≡ form_in c d d d → 0 ≡ room_number w h c d
+pub room_unknown : (w h c d : ℕ) {a : Bool} → a ≡ known c d d d → a ≡ false → 0 ≡ room_number w h c d
 unfolding room_number
-room_unknown w h c d e = rw (is_unknown c d d d e) refl
+room_unknown w h c d f e = rw (← f, e) refl
 
-pub room_known : (w h c d : ℕ) {k : Kind} {ds : Depths} {n : ℕ} → Some (k, ds) ≡ form_in c d d d → n ≡ room_of (sequence_of (session w h k ds.y)) → n ≡ room_number w h c d
+pub room_known : (w h c d : ℕ) {a : Bool} {k : Kind} {b : BitDepth} {n : ℕ} → a ≡ known c d d d → a ≡ true → k ≡ kind_of c → b ≡ bit_depth_of d → n ≡ room_of (sequence_of (session w h k b)) → n ≡ room_number w h c d
 unfolding room_number
-room_known w h c d e n =
+room_known w h c d f e k b n = rw (← f, e) (rw (k, b) at n)
+
+-- the same by what the four numbers say
+pub room_unformed : (w h c d : ℕ) → None ≡ form_in c d d d → 0 ≡ room_number w h c d
+room_unformed w h c d e = room_unknown w h c d refl (is_unknown c d d d e)
+
+pub room_formed : (w h c d : ℕ) {k : Kind} {ds : Depths} {n : ℕ} → Some (k, ds) ≡ form_in c d d d → n ≡ room_of (sequence_of (session w h k ds.y)) → n ≡ room_number w h c d
+room_formed w h c d e n =
     let f = is_formed c d d d e in
-    rw f.is_known (rw (f.kind, ap (λ (x : Depths). x.y) f.depths ∙ one (eqb c 0)) at n)
+    room_known w h c d refl f.is_known f.kind (ap (λ (x : Depths). x.y) f.depths ∙ one (eqb c 0)) n
   where
     one : (b : Bool) → (cond b (depths_of d d d) (depths_of d d d)).y ≡ bit_depth_of d
     one true = refl

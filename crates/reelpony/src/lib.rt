@@ -126,7 +126,8 @@ fn length_in(a: Result<Written, EncodeError>) -> usize
     }
 }
 
-// The start call: writes the parameter sets and the first picture, and begins a session.
+// The start call: writes the parameter sets and the first picture, and begins a session. It and the next call begin alike: a function that put the picture
+// together would have all of their parameters again.
 pub fn reelpony_start(
     width: u32,
     height: u32,

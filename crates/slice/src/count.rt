@@ -32,14 +32,15 @@ impl Picture<'_> {
         ensures { Counts z (row_in (sequence_of self.now.s) (lends_in self.now.planes) my) result.n result.z }
     {
         let mw = self.s.mbs_width();
-        let mut n: usize = 0;
-        let mut zeros = z;
+        let mut row = Count { n: 0, z };
         for mx in 0..mw {
-            let r = self.count_macroblock(my, mx, zeros);
-            n += r.n;
-            zeros = r.z;
+            let next = self.count_macroblock(my, mx, row.z);
+            row = Count {
+                n: row.n + next.n,
+                z: next.z,
+            };
         }
-        Count { n, z: zeros }
+        row
     }
 
     // All macroblocks of a picture, from its first byte on.
@@ -47,14 +48,15 @@ impl Picture<'_> {
         ensures { Counts 0 (cat (row_in (sequence_of self.now.s) (lends_in self.now.planes)) 0 (frame_height_in_mbs (sequence_of self.now.s))) result.n result.z }
     {
         let mh = self.s.mbs_height();
-        let mut n: usize = 0;
-        let mut zeros: usize = 0;
+        let mut rows = Count { n: 0, z: 0 };
         for my in 0..mh {
-            let r = self.count_row(my, zeros);
-            n += r.n;
-            zeros = r.z;
+            let next = self.count_row(my, rows.z);
+            rows = Count {
+                n: rows.n + next.n,
+                z: next.z,
+            };
         }
-        Count { n, z: zeros }
+        rows
     }
 }
 

@@ -57,7 +57,7 @@ fn copy_any_rows(
     at + h * w
 }
 
-// The same again: for each width that a block has there is a loop of its own, since only rows of a width that is known where the code is compiled are fast. The
+// The same of either: for each width that a block has there is a loop of its own, since only rows of a width that is known where the code is compiled are fast. The
 // parameters and what is required of them are those that docs/ANSWERS.md names.
 #[inline(always)]
 pub fn lay_rows(

@@ -52,7 +52,7 @@ impl Tally {
     }
 
     // Prints what was compared, how often, and whether all was right.
-    pub fn print(self, rt: &impl Print, what: &str) -> io::Result<()> {
+    fn print(self, rt: &impl Print, what: &str) -> io::Result<()> {
         println!(rt; "{what}: {self}")
     }
 

@@ -115,7 +115,8 @@ impl Refusal {
 }
 
 impl Session {
-    // What the kind and the depth fix. Across and down there is a function each, since the standard has a formula each: they agree in 4:2:0.
+    // What the kind and the depth fix. Across and down there is a function each, though they agree in 4:2:0: docs/ANSWERS.md names the public ones, each with a
+    // definition of its own, and `mb_width` stands beside `mb_height`.
 
     // Whether there is no chroma.
     #[tactic(auto, unfolding(crate::specs::Form::mono))]

@@ -8,11 +8,11 @@ pub loop-mx-init : goal.loop-mx-init
 loop-mx-init c =
     tally_start c.args.z _ _ _ c.requires.z_bound (omega (arith, row_few c.args.self.now.ready c.args.my c.requires.my_bound))
 
-pub overflow_add-n : goal.overflow_add-n
-overflow_add-n c = omega (arith, tally_most (tally_turn c.loop-mx.invariant (omega (arith, c.loop-mx-test.true, c.mbs_width-mw.ensures)) c.count_macroblock-r.ensures))
+pub overflow_add-row : goal.overflow_add-row
+overflow_add-row c = omega (arith, tally_most (tally_turn c.loop-mx.invariant (omega (arith, c.loop-mx-test.true, c.mbs_width-mw.ensures)) c.count_macroblock-next.ensures))
 
 pub loop-mx-preserved : goal.loop-mx-preserved
-loop-mx-preserved c = tally_turn c.loop-mx.invariant (omega (arith, c.loop-mx-test.true, c.mbs_width-mw.ensures)) c.count_macroblock-r.ensures
+loop-mx-preserved c = tally_turn c.loop-mx.invariant (omega (arith, c.loop-mx-test.true, c.mbs_width-mw.ensures)) c.count_macroblock-next.ensures
 
 pub returns : goal.returns
 returns c =
