@@ -203,7 +203,7 @@ pub fn start(picture: Picture, out: &mut [u8]) -> Result<Written, EncodeError>
     Ok(Written { session, length })
 }
 
-// The next call: writes one more picture in the session held.
+// The next call: writes one more picture in the session held. Between its steps and those of `start` only the sets differ; they stand where they are written.
 pub fn next(held: Session, picture: Picture, out: &mut [u8]) -> Result<Written, EncodeError>
     ensures value { result ≡ next_of held (shot_of picture.entry) out.old }
     ensures out_after { out.new ≡ next_out held (shot_of picture.entry) out.old }

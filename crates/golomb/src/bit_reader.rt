@@ -3,7 +3,7 @@
 ghost use Rattle.std.specs.Prelude.{◌≡◌};
 ghost use Rattle.golomb.specs.Answers.{read_ue, read_se, read_u};
 
-#[derive(Clone, Copy)]
+#[derive(Clone, Copy, Debug, PartialEq, Eq)]
 pub struct BitReader<'a> {
     pub payload: &'a [u8],
     pub place: usize,

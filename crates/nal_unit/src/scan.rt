@@ -100,7 +100,7 @@ fn fault64(s: &[u8], i: usize) -> bool
 }
 
 // The first fault, or the end, and a place from which on no inserted byte stands before it.
-#[derive(Clone, Copy)]
+#[derive(Clone, Copy, Debug, PartialEq, Eq)]
 pub struct Found {
     pub fault: usize,
     pub calm: usize,
@@ -157,7 +157,7 @@ pub fn first_fault(s: &[u8], from: usize) -> usize
 
 // Where a unit ends: the next start code or the end, the place behind the unit's last byte, and a place from which on no inserted byte stands in it; None
 // where the unit has a fault, since what is behind the fault was not looked at.
-#[derive(Clone, Copy)]
+#[derive(Clone, Copy, Debug, PartialEq, Eq)]
 pub struct UnitScan {
     pub end: usize,
     pub stop: usize,

@@ -69,7 +69,7 @@ fn frame_cropping(s: Session) -> Option<FrameCropping>
     })
 }
 
-// A payload as far as it is written: its bytes, and the place of the next field.
+// A payload as far as it is written: its bytes, and the place of the next field. No heap, as in Payload.
 struct Writer {
     bytes: [u8; 32],
     place: usize,
@@ -171,7 +171,7 @@ fn put_vui(payload: &mut [u8], place: usize) -> usize
     bits::put_bits(payload, place, 16, 0x9B01)
 }
 
-// A payload: the first `len` of the bytes, and zeros behind them. No heap: fixed bytes with a length.
+// A payload: the first `len` of the bytes, and zeros behind them. No heap: fixed bytes with a length. Two are compared nowhere.
 #[derive(Clone, Copy)]
 pub struct Payload {
     pub bytes: [u8; 32],
@@ -279,6 +279,7 @@ struct SizeCodes {
 fn sizes_in(payload: &[u8]) -> SizeCodes
     ensures { SizesIn payload.now result }
 {
+    // the form alone is asked for: of what size is not known yet
     let place = width_place(form_in(payload, 0, 0));
     let (across, place_down) = code_at(payload, place);
     let (down, behind) = code_at(payload, place_down);

@@ -1,5 +1,4 @@
 -- Laws of taking a picture's visible samples by the places of its unit, for the code.
---     fine_props                that a size is an accepted one has one proof at most, so that a value can keep it
 --     RowsTook, RowsTaking      rows that were taken into a plane, and the place behind them; rows that are being taken
 --     shown-high, shown-row     what is visible of a plane reaches into each of its blocks
 --     BlockBy, BlockTook        a block by the numbers that the code has; what is visible of it was taken
@@ -10,11 +9,9 @@
 --     MbsTaking                 macroblocks that are being taken
 --     PlanesTook                the planes begin with the visible samples, stored tight, and are what they were behind them
 -- Assumes nothing.
-use Rattle.std.specs.Prelude.{◌≡◌, refl, List, ◌++◌, ◌⊎◌, ℕ, zero, suc, ◌+◌, ◌-◌, ◌*◌, ◌/◌, ◌%◌, ◌≤◌, ◌<◌, min, true, false, eqb, length, drop, get_or, replicate}
+use Rattle.std.specs.Prelude.{◌≡◌, refl, List, ◌++◌, ℕ, zero, suc, ◌+◌, ◌-◌, ◌*◌, ◌/◌, ◌%◌, ◌≤◌, ◌<◌, min, true, false, eqb, length, drop, get_or, replicate}
 use Rattle.std.proofs.Common.{sym, ap, ◌∙◌, length-drop, zero-mul, add-mul, mul-le-mul, mul-le-mul_left, mul-le-mul_right, div-add-mod', arith, inl, inr}
-use Rattle.std.proofs.Math.Nat.{ℕ_set}
 use Rattle.std.proofs.Math.Arith.{digits_lt}
-use Rattle.std.proofs.Props.{props}
 use Rattle.std.proofs.lemmas.List.{length-replicate, get_or-replicate}
 use Rattle.lists.specs.Fill.{splice, splice-length}
 use Rattle.lists.specs.Part.{part, part_at}
@@ -32,15 +29,6 @@ use Rattle.ycbcr_image.specs.Sizes.{Sequence, next_high, pic_width_in_mbs, frame
 use Rattle.ycbcr_image.specs.Accepted.{Fine, payload_most, tight_most}
 use Rattle.reader.specs.Heads.{payload_at}
 use Rattle.reader.specs.Bands.{Banded, Shown, Band, lines_of, lines_even, band_in, lines_are, dark_are, band_filled}
-
--- that a size is an accepted one has one proof at most
-pub depth_prop : (d : ℕ) → IsProp ((d ≡ 8) ⊎ (d ≡ 12))
-depth_prop d (inl e) (inl f) = ap inl (ℕ_set d 8 e f)
-depth_prop d (inl e) (inr f) = absurd (omega arith)
-depth_prop d (inr e) (inl f) = absurd (omega arith)
-depth_prop d (inr e) (inr f) = ap inr (ℕ_set d 12 e f)
-
-pub ruleset fine_props = (depth_prop, props)
 
 -- h rows of bw bytes of the payload from its byte n on were taken, the first w bytes of each, into a plane that held d and holds d'; r is the place behind them
 pub record RowsTook (s : List ℕ) (o e n : ℕ) (d : List ℕ) (a w bw step h : ℕ) (d' : List ℕ) (r : ℕ) : Type 0 where

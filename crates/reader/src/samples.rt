@@ -5,13 +5,13 @@ ghost use Rattle.std.specs.Prelude.{◌≡◌, true, ℕ, ◌+◌, ◌*◌, ◌�
 ghost use Rattle.nal_unit.specs.Kept.{ins_count};
 ghost use Rattle.ycbcr_image.specs.Form.{planes, block_bytes, mb_bytes};
 ghost use Rattle.ycbcr_image.specs.Sizes.{sequence_of, pic_width_in_mbs, frame_height_in_mbs, tight_length};
-ghost use Rattle.ycbcr_image.specs.Accepted.{Fine};
+ghost use Rattle.ycbcr_image.specs.Accepted.{Fine, fine_props};
 ghost use Rattle.slice.specs.Cat.{cat};
 ghost use Rattle.slice.specs.Laid.{Laid};
 ghost use Rattle.slice.specs.Picture.{picture_length, off_in};
 ghost use Rattle.reader.specs.Units.{IsUnit, payload_of, StandsIn};
 ghost use Rattle.reader.specs.Bands.{pieces, lines_of, Pieced, Banded};
-ghost use Rattle.reader.specs.Samples.{fine_props, RowsTook, BlockTook, head_place, block_place, Rooms, RowStands, DarkRow, PlanesTook};
+ghost use Rattle.reader.specs.Samples.{RowsTook, BlockTook, head_place, block_place, Rooms, RowStands, DarkRow, PlanesTook};
 
 use crate::unit::NalUnit;
 use nal_unit::{rows, taking};
@@ -61,7 +61,8 @@ impl Coded<'_> {
         p
     }
 
-    // Takes what is visible of plane k's block in macroblock row my and column mx, which stands at the place p. Answers the place behind it.
+    // Takes what is visible of plane k's block in macroblock row my and column mx, which stands at the place p. Answers the place behind it. What k and its room
+    // are is asked of each call, here and below: a plane with its number would be made for the one call.
     fn take_block(self, p: usize, k: u32, my: usize, mx: usize, out: &mut [u8]) -> usize
         requires stands { StandsIn self.unit (block_place (sequence_of self.q) (my * pic_width_in_mbs (sequence_of self.q) + mx) k) p }
         requires k_bound { (k < 3) × (k < planes (sequence_of self.q).form) }

@@ -12,6 +12,7 @@ const ROOM: usize = 600;
 
 impl<R: Print> Judge<'_, R> {
     // Has the first `n` bytes refused where `bytes` stand at `place`, and bytes 10 hex behind the take, with all of the planes lent, and with none: 17 and 18 go before 19.
+    // (An array, as in refusals.rt.)
     fn refuse_with(
         &mut self,
         name: &str,

@@ -25,7 +25,8 @@ impl<R: Print> Judge<'_, R> {
         Ok(())
     }
 
-    // Has a set refused with 14 where the bit number `k` of it is changed; it stands alone behind a start code of four bytes.
+    // Has a set refused with 14 where the bit number `k` of it is changed; it stands alone behind a start code of four bytes. (The copy lies in an array: a Vec
+    // would ask for an allocator, and this for one more error to tell.)
     fn refuse_flipped(&mut self, name: &str, set: &[u8], k: usize) -> io::Result<()> {
         let mut take = [0; 32];
         put(&mut take, 0, set);
@@ -34,7 +35,7 @@ impl<R: Print> Judge<'_, R> {
         self.refuse_first(name, &take[..n], Refusal::ParameterSet, 4, n)
     }
 
-    // The same of each of these bits.
+    // The same of each of these bits. (A loop of its own, as the pictures' bits have one: to take the step as a closure would be longer.)
     fn refuse_set_bits(&mut self, name: &str, set: &[u8], bits: Range<usize>) -> io::Result<()> {
         for k in bits {
             self.refuse_flipped(name, set, k)?;

@@ -103,7 +103,7 @@ impl Shots {
         })
     }
 
-    // Writes a picture: the first in a start call, the others in next calls.
+    // Writes a picture: the first in a start call, the others in next calls. (encoder_vectors puts one together alike, of values of its own.)
     fn write(self, drawn: &Drawn, out: &mut [u8]) -> Result<Written, EncodeError> {
         let Session {
             width,

@@ -16,7 +16,7 @@ use encoder::{Depths, EncodeError, Picture, Written};
 use slice::{Planes, Strides};
 use ycbcr_image::{BitDepth, Kind, Session};
 
-// The kind of a colour, as C numbers it; None for a number that is none.
+// The kind of a colour, as C numbers it; None for a number that is none. (No TryFrom, here and below: the types are another crate's.)
 #[tactic(auto, unfolding(crate::specs::Numbers::colour_known, crate::specs::Numbers::kind_of))]
 fn kind_of(colour: u32) -> Option<Kind>
     ensures { result ≡ kind_in colour }
@@ -71,7 +71,7 @@ fn session_of(width: u32, height: u32, colour: u32, bits: u32) -> Option<Session
     })
 }
 
-// The session that eight numbers say; one of no size, which no picture has, where they say none.
+// The session that eight numbers say; one of no size, which no picture has, where they say none: so `held_of` says it, and each picture differs from it.
 fn held(session: &[u32; 8]) -> Session
     ensures { result ≡ held_of session.now }
 {

@@ -9,9 +9,6 @@
 use Rattle.std.specs.Prelude.{◌≡◌, refl, List, [], ◌∷◌, ◌++◌, Bool, true, false, cond, ℕ, zero, suc, ◌+◌, ◌*◌, ◌/◌, ◌≤◌, ◌<◌, length}
 use Rattle.std.proofs.Common.{sym, ap, ◌∙◌, append-nil, zero-add, add_assoc, mul_assoc, div-mul-le_self, mul-le-mul_right, suc-mul, zero-mul, arith, length-append}
 use Rattle.std.proofs.Math.Arith.{digits_lt}
-use Rattle.std.proofs.Props.{props}
-use native.Mathlib.Nat.{ℕ_set}
-use mathlib.Core.Logic.{◌⊎◌, inl, inr}
 use Rattle.nal_unit.specs.Escape.{esc, esc_from, zeros_end, esc-append}
 use Rattle.nal_unit.specs.EscapeCode.{counted, esc-stop}
 use Rattle.nal_unit.specs.PutCode.{Put, pieces_first, pieces_room, pieces}
@@ -23,7 +20,7 @@ use Rattle.ycbcr_image.specs.declared.Kind.TheVariants.{Mono, Colour}
 use Rattle.ycbcr_image.specs.declared.Session.{Session}
 use Rattle.ycbcr_image.specs.Form.{form_of, sub_width_c, sub_height_c, Form, mono, planes, in_plane, block_width, block_height, block_row_bytes, block_bytes, bytes_of, mb_bytes, planes_some, planes-colour}
 use Rattle.ycbcr_image.specs.Sizes.{Sequence, sequence_of, pic_width_in_mbs, frame_height_in_mbs}
-use Rattle.ycbcr_image.specs.Accepted.{Fine, mbs_most}
+use Rattle.ycbcr_image.specs.Accepted.{Fine, fine_props, mbs_most}
 use Rattle.slice.specs.declared.Planes.{Planes}
 use Rattle.slice.specs.declared.Strides.{Strides}
 use Rattle.slice.specs.Cat.{cat, cat_none, cat-length, rows_of, rows_even, Even}
@@ -48,14 +45,8 @@ pub record Ready (q : Sequence) (L : Lends) : Type 0 where
   pub whole : Whole q L
 
 -- which has one proof at most, so that a struct may hold it
-depth-prop : (n : ℕ) → IsProp ((n ≡ 8) ⊎ (n ≡ 12))
-depth-prop n (inl a) (inl b) = ap inl (ℕ_set n 8 a b)
-depth-prop n (inl a) (inr b) = absurd (omega arith)
-depth-prop n (inr a) (inl b) = absurd (omega arith)
-depth-prop n (inr a) (inr b) = ap inr (ℕ_set n 12 a b)
-
 pub Ready-prop : (q : Sequence) (L : Lends) → IsProp (Ready q L)
-Ready-prop q L = hlevel (depth-prop, props)
+Ready-prop q L = hlevel fine_props
 
 unfoldable pub macroblock_in : Sequence → Lends → ℕ → List ℕ
 macroblock_in q L i = macroblock (header_of 0 0) (mb_at (pic_width_in_mbs q) (planes_in q.form L)) i

@@ -1,5 +1,6 @@
 -- What the sizes that 1 to 5 let pass have, so that the code above forms no number that does not fit (01, "Pictures accepted").
 --     Fine, fine         of an accepted size: the form, the counts of macroblocks, the crop, the planes. `fine` takes a session, which of a picture is `session_of`
+--     fine_props         it has one proof at most, so that a value can keep it
 --     Known, known       of its form: the chroma format and the depth are known, and a macroblock is its blocks
 --     Units              of its crop
 --     FinePlane          of a plane: its padded size is whole blocks, its rows are whole bytes, what is visible lies in what is padded, bounds
@@ -11,7 +12,9 @@
 use Rattle.std.specs.Prelude.{◌≡◌, refl, true, false, not, ◌&&◌, ◌||◌, ◌⊎◌, ℕ, zero, suc, ◌+◌, ◌-◌, ◌*◌, ◌/◌, ◌%◌, ◌≤◌, ◌<◌, eqb, ltb}
 use Rattle.std.proofs.Common.{ap, inl, inr, mul-le-mul, arith, ltb-false, eqb-true, eq-eqb}
 use Rattle.std.proofs.lemmas.Bool.{eqb-false, not-true, not-false}
+use Rattle.std.proofs.Math.Nat.{ℕ_set}
 use Rattle.std.proofs.Math.Arith.{digits_lt}
+use Rattle.std.proofs.Props.{props}
 use Rattle.ycbcr_image.specs.declared.BitDepth.{BitDepth}
 use Rattle.ycbcr_image.specs.declared.BitDepth.TheVariants.{Depth8, Depth12}
 use Rattle.ycbcr_image.specs.declared.Kind.{Kind}
@@ -72,6 +75,14 @@ pub record Fine (q : Sequence) : Type 0 where
   pub units : Units q
   pub plane : (p : ℕ) → FinePlane q p
   pub present : (p : ℕ) → p < planes q.form → Present q p
+
+pub depth-prop : (n : ℕ) → IsProp ((n ≡ 8) ⊎ (n ≡ 12))
+depth-prop n (inl a) (inl b) = ap inl (ℕ_set n 8 a b)
+depth-prop n (inl a) (inr b) = absurd (omega arith)
+depth-prop n (inr a) (inl b) = absurd (omega arith)
+depth-prop n (inr a) (inr b) = ap inr (ℕ_set n 12 a b)
+
+pub ruleset fine_props = (depth-prop, props)
 
 -- the rows 1, 3, 4 and 5, read as facts
 pub record Sound (q : Sequence) : Type 0 where

@@ -55,21 +55,21 @@ pub struct Session {
 #[derive(Clone, Copy, Debug, PartialEq, Eq)]
 pub enum Refusal {
     // Width or height is 0 or over 16,384.
-    Size,
+    Size = 1,
     // Colour and the three depths differ.
-    Depths,
+    Depths = 2,
     // Colour, 12 bits, width not a multiple of 4.
-    Colour12Width,
+    Colour12Width = 3,
     // Width odd, unless mono 8.
-    OddWidth,
+    OddWidth = 4,
     // Colour and height odd.
-    OddHeight,
+    OddHeight = 5,
     // Width, height, colour or depth is not the session's.
-    OtherThanSession,
+    OtherThanSession = 6,
     // A plane's stride is below its padded row's bytes.
-    Stride,
+    Stride = 7,
     // A plane has fewer whole rows of `stride` bytes than its padded height.
-    Rows,
+    Rows = 8,
 }
 
 impl BitDepth {
@@ -101,16 +101,7 @@ impl Refusal {
     pub fn number(self) -> u32
         ensures { result ≡ number self }
     {
-        match self {
-            Refusal::Size => 1,
-            Refusal::Depths => 2,
-            Refusal::Colour12Width => 3,
-            Refusal::OddWidth => 4,
-            Refusal::OddHeight => 5,
-            Refusal::OtherThanSession => 6,
-            Refusal::Stride => 7,
-            Refusal::Rows => 8,
-        }
+        self as u32
     }
 }
 
