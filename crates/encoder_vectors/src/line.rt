@@ -86,19 +86,19 @@ fn depth(word: &str) -> Option<BitDepth> {
     }
 }
 
-// The refusal of a number.
+// The refusal that the library gives this number.
 fn refusal(number: u32) -> Option<Refusal> {
-    match number {
-        1 => Some(Refusal::Size),
-        2 => Some(Refusal::Depths),
-        3 => Some(Refusal::Colour12Width),
-        4 => Some(Refusal::OddWidth),
-        5 => Some(Refusal::OddHeight),
-        6 => Some(Refusal::OtherThanSession),
-        7 => Some(Refusal::Stride),
-        8 => Some(Refusal::Rows),
-        _ => None,
-    }
+    let all = [
+        Refusal::Size,
+        Refusal::Depths,
+        Refusal::Colour12Width,
+        Refusal::OddWidth,
+        Refusal::OddHeight,
+        Refusal::OtherThanSession,
+        Refusal::Stride,
+        Refusal::Rows,
+    ];
+    all.into_iter().find(|r| r.number() == number)
 }
 
 // A plane, of the next two words.

@@ -10,6 +10,7 @@
 --     Scanned s from r     the unit at a place of a slice: where the next start code or the end is, where the unit stops, whether it has a fault (no calm place), from where on it is calm
 -- Assumes nothing.
 use Rattle.std.specs.Prelude.{◌≡◌, refl, List, [], ◌∷◌, ◌++◌, Bool, true, false, not, cond, ◌&&◌, ◌||◌, ℕ, zero, suc, ◌+◌, ◌-◌, ◌*◌, ◌/◌, ◌≤◌, ◌<◌, leb, ltb, eqb, length, take, drop, get_or, Option, Some, None, is_none, IfSome}
+use Rattle.std.specs.Option.{unwrap_or}
 use Rattle.std.proofs.Common.{sym, ap, ◌∙◌, true≢false, add-zero, add_assoc, mod-eq_of_lt, arith, length-take, length-drop, drop_of_length-le, take-append-drop, length-take-le, take-take, take-add, drop-drop, get_or-take, get_or-drop, lt-ltb, eqb-true, eq-eqb, ne_eqb, le-leb, leb-true, leb-false}
 use Rattle.std.proofs.Math.Bool.{and_assoc, or-true, and-eq-true_iff}
 use Rattle.std.proofs.Math.Dec.{leb-suc-suc}
@@ -271,6 +272,13 @@ seek-calm {s} {from} {c} i (suc n) g h e =
 pub seek_next : {s : List ℕ} {from c : ℕ} (k : ℕ) → Seeking s from (from + k) c → from + k + 3 ≤ length s → (fault_here (drop (from + k) s) ≡ false) × (ins_at s (from + k + 2) ≡ false)
     → Seeking s from (from + (k + 1)) c
 seek_next {from = from} k g h f = rw (add_assoc from k 1) at (seek-keep g h f)
+
+-- places at which no fault begins, and behind which no inserted byte stands, are passed
+pub seek-low : {s : List ℕ} (i n : ℕ) → i + n + 2 ≤ length s → ((k : ℕ) → i ≤ k → k < i + n → (fault_here (drop k s) ≡ false) × (ins_at s (k + 2) ≡ false)) → Seeking s i (i + n) (i + 2)
+seek-low {s} i zero h f = rw (add-zero i) (seek_start s i (i + 2) (omega arith) (omega arith) (flat_none s (i + 2) (i + 2) (omega arith)))
+seek-low {s} i (suc n) h f =
+    let q : i + suc n ≡ i + (n + 1) = omega arith in
+    rw q (seek_next n (seek-low i n (omega arith) (λ k a l. f k a (omega arith))) (omega arith) (f (i + n) (omega arith) (omega arith)))
 
 -- some places on, which were looked at by themselves
 pub seek_more : {s : List ℕ} {from i c j : ℕ} → Seeking s from i c → Seeking s i j (i + 2) → Seeking s from j c
@@ -548,7 +556,7 @@ unit_bad s = by (fault (unit_of s)) refl
 -- The unit at a place of a slice
 
 -- what a caller learns of the scan's answer: its values, that the unit is the bytes from `from` to `stop`, that there is no calm place exactly where it has a fault,
--- and that no inserted byte stands in it from the calm place on
+-- and that no inserted byte stands in it from the calm place on, which is its stop where it has a fault
 pub record Scanned (s : List ℕ) (from : ℕ) (r : UnitScan) : Type 0 where
   pub end : r.end ≡ from + next (drop from s)
   pub stop : r.stop ≡ from + length (unit_of (drop from s))
@@ -556,11 +564,11 @@ pub record Scanned (s : List ℕ) (from : ℕ) (r : UnitScan) : Type 0 where
   pub unit : unit_of (drop from s) ≡ part s from (r.stop - from)
   pub most : r.stop ≤ r.end
   pub inside : from ≤ length s → r.end ≤ length s
-  pub calm : IfSome r.calm (λ c. ins_count s c r.stop ≡ 0)
+  pub calm : ins_count s (unwrap_or r.calm r.stop) r.stop ≡ 0
 
 -- the unit by its bounds
 scanned : (s : List ℕ) (from e t : ℕ) (m : Option ℕ) → e ≡ from + next (drop from s) → t ≡ from + length (unit_of (drop from s)) → is_none m ≡ fault (unit_of (drop from s))
-    → IfSome m (λ c. ins_count s c t ≡ 0) → Scanned s from (record { end = e; stop = t; calm = m })
+    → ins_count s (unwrap_or m t) t ≡ 0 → Scanned s from (record { end = e; stop = t; calm = m })
 unfolding part
 scanned s from e t m p q f z =
     let u = drop from s in
@@ -598,7 +606,7 @@ module _ (s : List ℕ) (from e t : ℕ) (r : Found) (g : Sought s from r) (ee :
   pub unit-faulty : r.fault + 3 ≤ t → Scanned s from (record { end = e; stop = t; calm = None })
   unit-faulty h =
       let f : fault (unit_of (drop from s)) ≡ true = fault_by ∙ le-leb (first_fault (drop from s) + 3) (length (unit_of (drop from s))) (omega (arith, g.fault, unit-stop)) in
-      scanned s from e t None unit_end unit-stop (sym f) tt
+      scanned s from e t None unit_end unit-stop (sym f) (count_end s t t (omega arith))
 
   pub unit_whole : t < r.fault + 3 → Scanned s from (record { end = e; stop = t; calm = Some r.calm })
   unit_whole h =

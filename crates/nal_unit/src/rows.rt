@@ -3,13 +3,16 @@ ghost use Rattle.std.specs.Prelude.{◌≡◌, ◌+◌, ◌≤◌, length};
 ghost use Rattle.lists.specs.Fill.{splice};
 ghost use Rattle.lists.specs.Part.{part};
 
-// Copies n bytes from the place p of s to the place `at` of the output.
+// Copies n bytes from the place p of s to the place `at` of the output, byte by byte: by `copy_from_slice` the library for C would ask its host for memmove, beside
+// memcpy and memset.
 pub fn copy(s: &[u8], p: usize, n: usize, out: &mut [u8], at: usize)
     requires n_in_bounds { p + n ≤ length s.now }
     requires n_in_bounds_2 { at + n ≤ length out.old }
     ensures { out.new ≡ splice out.old at (part s.now p n) }
 {
-    out[at..at + n].copy_from_slice(&s[p..p + n]);
+    for k in 0..n {
+        out[at + k] = s[p + k];
+    }
 }
 
 // The same of N bytes, a row of a width that is known where the code is compiled. Two slices are not known to be apart, a local array and a slice are: by way of
@@ -20,5 +23,6 @@ pub fn copy_fixed<const N: usize>(s: &[u8], p: usize, out: &mut [u8], at: usize)
 {
     let mut row = [0u8; N];
     row.copy_from_slice(&s[p..p + N]);
-    out[at..at + N].copy_from_slice(&row);
+    let n = N;
+    out[at..at + n].copy_from_slice(&row[..n]);
 }

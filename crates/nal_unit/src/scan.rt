@@ -88,7 +88,15 @@ fn low_at(s: &[u8], i: usize) -> bool
     requires { i + 3 ≤ length s.now }
     ensures { result ≡ false → (fault_here (drop i s.now) ≡ false) × (ins_at s.now (i + 2) ≡ false) }
 {
-    !calm::plain(s, i + 2)
+    s[i] | s[i + 1] | (s[i + 2] & 252) == 0
+}
+
+// Whether such bytes stand at one of the 64 places from `i` on. Where it is false no fault begins there, and none of the 64 bytes from `i` + 2 on is an inserted one.
+fn low64(s: &[u8], i: usize) -> bool
+    requires { i + 66 ≤ length s.now }
+    ensures { result ≡ false → Seeking s.now i (i + 64) (i + 2) }
+{
+    !calm::at_each(i, i + 64, |k| !low_at(s, k))
 }
 
 // Whether a fault begins at one of the 64 places from `i` on.
@@ -135,7 +143,7 @@ fn seek(s: &[u8], from: usize) -> Found
     let mut calm = from + 2;
     for b in 0..blocks {
         let i = from + 64 * b;
-        if !calm::calm(s, i + 2, 64) {
+        if low64(s, i) {
             if fault64(s, i) {
                 return seek_plain(s, i, calm);
             }
@@ -203,10 +211,18 @@ pub fn unit_scan(s: &[u8], from: usize) -> UnitScan
     }
 }
 
-// Whether the bytes from `from` to `to` are all zero. Beside `calm::void`, which takes a place and a count: docs/DECISIONS.md names both.
+// Whether the bytes from `from` to `to` are all zero. It goes 64 places at a time, and looks at none behind those that have another byte. Beside `calm::void`,
+// which takes a place and a count: docs/DECISIONS.md names both.
 pub fn all_zero(s: &[u8], from: usize, to: usize) -> bool
     requires { to ≤ length s.now }
     ensures { result ≡ blank (take (to - from) (drop from s.now)) }
 {
-    calm::at_each(from, to, |k| s[k] == 0)
+    let blocks = to.saturating_sub(from) / 64;
+    for b in 0..blocks {
+        let i = from + 64 * b;
+        if !calm::at_each(i, i + 64, |k| s[k] == 0) {
+            return false;
+        }
+    }
+    calm::at_each(from + 64 * blocks, to, |k| s[k] == 0)
 }

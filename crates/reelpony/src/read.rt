@@ -41,7 +41,8 @@ fn sets_in(ws: &[u64; 8]) -> HeldSets
 {
     let sps = ws[1];
     let pps = ws[6];
-    if 1 < sps || 1 < pps {
+    let held = 1;
+    if held < sps || held < pps {
         return NOTHING;
     }
     if sps == 0 {

@@ -1,5 +1,5 @@
 -- `parameter_sets::read_sps` meets its contract, test by test. Assumes nothing.
-use Rattle.std.proofs.Common.{◌≡◌, refl, sym, ap, ap₂, ◌∙◌, List, ℕ, Bool, true, false, arith, cond}
+use Rattle.std.proofs.Common.{◌≡◌, refl, sym, ap, ap₂, ◌∙◌, List, ℕ, Bool, true, false, arith, cond, rules}
 use Rattle.std.specs.Bool.{then_some}
 use Rattle.std.proofs.Math.Option.{some, none}
 use Rattle.lists.specs.Test.{same}
@@ -33,6 +33,6 @@ returns c =
     let p = c.args.payload.now in
     let w : c.in_ok-width.width ≡ (guessed p).width = grind arith in
     let h : c.in_ok-height.height ≡ (guessed p).height = grind arith in
-    let e : c.eq.result ≡ same p _ = c.eq.ensures ∙ pointwise_same p _ ∙ ap (same p) c.sps-form.ensures.bytes in
+    let e : c.eq.result ≡ same p _ = c.eq.ensures ∙ pointwise_same _ _ ∙ ap₂ same (search rules) c.sps-form.ensures.bytes in
     ap sps_read c.then_some.ensures ∙ chosen c.eq.result c.form_in-s.result
     ∙ sym (read-tested _ _ _ (says p _ _ _ w h c.form_in-s.ensures) (sym c.if-not-is_accepted.ensures) ∙ rw (← e) refl)

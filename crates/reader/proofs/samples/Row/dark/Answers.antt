@@ -1,5 +1,5 @@
 -- `reader::samples::Row::dark` meets its contract. The loop's invariant: the macroblocks that were found dark, and the place behind them. Assumes nothing.
-use Rattle.std.proofs.Common.{◌≡◌, ◌+◌, ◌*◌, ◌≤◌, refl, sym, ◌∙◌, length, Some}
+use Rattle.std.proofs.Common.{◌≡◌, ◌+◌, ◌*◌, ◌≤◌, refl, length, Some, rules}
 use Rattle.ycbcr_image.specs.Sizes.{sequence_of, pic_width_in_mbs}
 use Rattle.nal_unit.specs.Taking.{stands-pass, behind_zeros}
 use Rattle.nal_unit.specs.TakingCode.{zeros-behind, zeros-are}
@@ -26,5 +26,5 @@ pub loop-mx-preserved : goal.loop-mx-preserved
 loop-mx-preserved c =
     let a = c.args.self.coded in
     let t = stands-pass c.loop-mx.invariant.at c.pass-b.ensures in
-    let f : Some c.in_ok-p.p ≡ behind_zeros a.unit.take.now c.pass-b.result a.unit.end c.mb_bytes-size.result = sym c.in_ok-p.was ∙ c.zeros.ensures in
+    let f : Some c.in_ok-p.p ≡ behind_zeros a.unit.take.now c.pass-b.result a.unit.end c.mb_bytes-size.result = search rules in
     dark_turn c.loop-mx.invariant c.pass-b.ensures (zeros-behind a.unit.take.now c.pass-b.result a.unit.end c.mb_bytes-size.result c.in_ok-p.p f) (zeros-are a.unit.take.now c.pass-b.result a.unit.end c.mb_bytes-size.result c.in_ok-p.p t.low t.high t.inside f)
