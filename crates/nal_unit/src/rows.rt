@@ -23,6 +23,7 @@ pub fn copy_fixed<const N: usize>(s: &[u8], p: usize, out: &mut [u8], at: usize)
 {
     let mut row = [0u8; N];
     row.copy_from_slice(&s[p..p + N]);
+    // a number of its own, which the edit row_short makes another
     let n = N;
     out[at..at + n].copy_from_slice(&row[..n]);
 }

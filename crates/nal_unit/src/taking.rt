@@ -229,7 +229,9 @@ pub fn write_zeros(out: &mut [u8], at: usize, n: usize)
     out[at..at + n].fill(0);
 }
 
-// Takes 2 * n bytes of the payload to the place `at` of the output, where inserted bytes stand among them: zeros at once, others byte by byte.
+// Takes 2 * n bytes of the payload to the place `at` of the output, where inserted bytes stand among them: zeros at once, others byte by byte. Inline: with a
+// call, pictures with runs of zeros are read more slowly (docs/LOOK-BACK.md, d).
+#[inline(always)]
 fn take_marked(s: &[u8], p: usize, e: usize, n: usize, out: &mut [u8], at: usize) -> usize
     requires le_p { (2 ≤ p) × (p ≤ e) × (e ≤ length s.now) }
     requires le_n { (1 ≤ n) × (2 * n ≤ length (kept s.now p e)) }

@@ -49,15 +49,16 @@ fn put_byte(s: &[u8], p: usize, out: &mut [u8], a: usize) -> usize
     a + 1
 }
 
-// Writes the payload of the bytes from `p` up to `e` at the place `a`, byte by byte, and answers the place behind.
+// Writes the payload of the bytes from `p` up to `e` at the place `a`, byte by byte, and answers the place behind. They are counted from 0: a loop over p..e was
+// compiled to one byte a turn, one over 0..n to two, which is faster where inserted bytes stand close (docs/LOOK-BACK.md, d).
 fn put_plain(s: &[u8], p: usize, e: usize, out: &mut [u8], a: usize) -> usize
     requires le_p { (2 ≤ p) × (p ≤ e) × (e ≤ length s.now) }
     requires e_in_bounds { a + length (kept s.now p e) ≤ length out.old }
     ensures { Unescapes s.now p e out.old a out.new result }
 {
     let mut b = a;
-    for q in p..e {
-        b = put_byte(s, q, out, b);
+    for k in 0..e - p {
+        b = put_byte(s, p + k, out, b);
     }
     b
 }
