@@ -5,7 +5,7 @@
 --     Calming, Counting       a stretch tested for inserted bytes, and their count; calm_by: the test is that of each byte
 --     Skipping                bytes passed by counts
 --     Pair, Repeats           zeros in pairs, an inserted byte in each: what a black picture's payload is in the unit
---     pair_first ..           the test of three bytes; pairs-are: bytes that are found to be pairs of zeros are kept as zeros; pairs-alike: found by comparing slices
+--     pair_first ..           the test of three bytes; pairs-are: bytes that are found to be pairs of zeros are kept as zeros; pairs-alike, pairs_by: found by comparing slices, or each byte
 --     zeros-found ..          the place behind such zeros; zeros-behind, zeros-are: what is passed stands behind p, and is zeros
 -- Assumes nothing.
 use lib.Pointwise.{pointwise}
@@ -21,6 +21,7 @@ use Rattle.lists.specs.Part.{part, part_none, part-cons}
 use Rattle.lists.specs.Flag.{or-zero, xor-zero, every, Flag, flag-keep, flag-raise, flag_end}
 use Rattle.nal_unit.specs.Kept.{ins, ins_at, ins_at_lem, kept, ins_count, kept_more, kept-plain, kept_end, kept_append, kept-length, kept_some, count_step, count_end, count-append, Flat, flat-count}
 use Rattle.nal_unit.specs.Taking.{Next, Passed, pass_none, Took, took_next, took_more, took_stretch, zero_pair, alike, zero_pairs, zeros_in, behind_zeros}
+use Rattle.nal_unit.specs.CalmCode.{every_by}
 
 -- The test of an inserted byte
 
@@ -385,6 +386,12 @@ pairs-alike s p n m e h t =
     let a : p + m - p ≡ m = omega arith in
     let b : p + m + 3 - (p + 3) ≡ m = omega arith in
     rw (a, b, t, ← e) (alike-part s p m h)
+
+-- the same where a look at each of the others decides
+pub pairs_by : (b : Bool) (s : List ℕ) (p n : ℕ) → zero_pair s p ≡ true → (b ≡ true → (k : ℕ) → p ≤ k → k < p + 3 * (n - 1) → alike s k ≡ true)
+    → (b ≡ false → (k : ℕ) × (p ≤ k) × (k < p + 3 * (n - 1)) × (alike s k ≡ false)) → b ≡ zero_pairs s p n
+unfolding zero_pairs
+pairs_by b s p n t h g = rw t (every_by b (alike s) p (3 * (n - 1)) h g)
 
 pub pairs_not : (s : List ℕ) (p n : ℕ) → zero_pair s p ≡ false → false ≡ zero_pairs s p n
 unfolding zero_pairs

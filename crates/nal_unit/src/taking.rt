@@ -175,7 +175,7 @@ pub fn pairs(s: &[u8], p: usize, n: usize) -> bool
     ensures { result ≡ zero_pairs s.now p n }
 {
     let m = 3 * (n - 1);
-    pair(s, p) && s[p..p + m] == s[p + 3..p + m + 3]
+    pair(s, p) && at_each(p, p + m, |q| s[q] == s[q + 3])
 }
 
 // The place behind the payload's next n bytes, where these are zeros in such pairs.
